@@ -1,0 +1,33 @@
+-- 01, 'Images and the listing': what the bench's call answers and leaves in its text buffer. Assumes nothing: these are definitions.
+use mathlib.Core.Bool.{cond}
+use mathlib.Core.List.{List, _++_}
+use Prim.Native.Nat.{ℕ, zero, suc, _+_, _*_}
+use lib.Dec.{leb}
+use lib.IntN.{ℤ, pos, negsuc}
+use lib.ListN.{length, drop}
+use Rattle.model.specs.Image.{Image, refused-image, loaded, image}
+use Rattle.model.specs.Listing.{listing}
+
+pub record Benched : Type 0 where
+  pub answer : ℤ
+  pub buffer : List ℕ
+
+unfoldable pub negated : ℕ → ℤ
+negated zero = pos 0
+negated (suc n) = negsuc n
+
+-- refused: the question's number negated, and every byte as it was
+unfoldable pub bench-refused : (number : ℕ) → (buffer : List ℕ) → Benched
+bench-refused n buffer = record { answer = negated n; buffer = buffer }
+
+-- the text's length; bytes after the text keep what they held
+unfoldable pub bench-listed : (text buffer : List ℕ) → Benched
+bench-listed text buffer = record { answer = pos (length text); buffer = text ++ drop (length text) buffer }
+
+-- 45, last: has the buffer 64 × (budget + 1) bytes?
+unfoldable pub bench-on : Image → (buffer : List ℕ) → Benched
+bench-on (refused-image n) buffer = bench-refused n buffer
+bench-on (loaded m b) buffer = cond (leb (64 * (b + 1)) (length buffer)) (bench-listed (listing b m) buffer) (bench-refused 45 buffer)
+
+unfoldable pub bench : (bytes buffer : List ℕ) → Benched
+bench bs buffer = bench-on (image bs) buffer

@@ -1,0 +1,148 @@
+-- 01, 'Images and the listing': an image's records, questions 41 to 44 of each in order, then 1 to 4. Assumes nothing: these are definitions.
+use mathlib.Core.Bool.{Bool, true, false, _&&_, not, cond}
+use mathlib.Core.List.{List, [], _∷_}
+use mathlib.Core.Option.{Option, none, some}
+use Prim.Native.Nat.{ℕ, zero, suc, _+_, _*_}
+use Prim.Native.Char.{Char, code}
+use lib.Dec.{ltb, leb, eqb}
+use lib.ListN.{length, getD, set, take, drop, replicate}
+use Rattle.model.specs.Words.{Pointer}
+use Rattle.model.specs.Registers.{Dbr, Registers, Machine, machine, zero-pointer}
+use Rattle.model.specs.Questions.{ask, yes-to-all, start-questions}
+use Rattle.model.specs.Run.{unless-refused}
+
+-- MARKS, two bytes of ASCII, and the bytes of a record with its mark
+pub data Mark : Type 0 where
+  ME : Mark
+  ST : Mark
+  WD : Mark
+  RN : Mark
+
+unfoldable pub marked : (first second : Char) → List ℕ → Bool
+marked x y bs = eqb (getD bs 0 0) (code x) && eqb (getD bs 1 0) (code y)
+
+unfoldable pub mark-of : List ℕ → Option Mark
+mark-of bs =
+    cond (marked "M" "E" bs) (some ME) (cond (marked "S" "T" bs) (some ST) (cond (marked "W" "D" bs) (some WD) (cond (marked "R" "N" bs) (some RN) none)))
+
+unfoldable pub record-size : Mark → ℕ
+record-size ME = 6
+record-size ST = 61
+record-size WD = 14
+record-size RN = 6
+
+-- NUMBERS, high byte first: n bytes from byte `at` of a record
+unfoldable pub big-endian : (value : ℕ) → List ℕ → ℕ
+big-endian v [] = v
+big-endian v (b ∷ bs) = big-endian (256 * v + b) bs
+
+unfoldable pub number-at : (at n : ℕ) → List ℕ → ℕ
+number-at a n bs = big-endian 0 (take n (drop a bs))
+
+-- ST: A 8, DBR ADDRESS 4, LENGTH 2, then IPR and PR0 to PR7 as RING 1, SEGNO 2, WORDNO 2
+unfoldable pub pointer-at : (at : ℕ) → List ℕ → Pointer
+pointer-at a bs = record { ring = number-at a 1 bs; segment = number-at (a + 1) 2 bs; word = number-at (a + 3) 2 bs }
+
+unfoldable pub pointers-at : (count at : ℕ) → List ℕ → List Pointer
+pointers-at zero a bs = []
+pointers-at (suc n) a bs = pointer-at a bs ∷ pointers-at n (a + 5) bs
+
+unfoldable pub registers-at : List ℕ → Registers
+registers-at bs =
+    record {
+      a = number-at 2 8 bs;
+      dbr = record { address = number-at 10 4 bs; length = number-at 14 2 bs };
+      ipr = pointer-at 16 bs;
+      prs = pointers-at 8 21 bs;
+    }
+
+-- WHAT THE RECORDS SO FAR GAVE: memory once ME has come, registers once ST has
+pub record Loading : Type 0 where
+  pub memory : Option (List ℕ)
+  pub registers : Option Registers
+
+abbrev pub nothing-loaded : Loading
+nothing-loaded = record { memory = none; registers = none }
+
+unfoldable pub has : {A : Type 0} → Option A → Bool
+has none = false
+has (some x) = true
+
+unfoldable pub or-else : {A : Type 0} → A → Option A → A
+or-else x none = x
+or-else x (some y) = y
+
+unfoldable pub memory-of : Loading → List ℕ
+memory-of l = or-else [] (l .memory)
+
+abbrev pub zero-registers : Registers
+zero-registers = record { a = 0; dbr = record { address = 0; length = 0 }; ipr = zero-pointer; prs = [] }
+
+unfoldable pub machine-of : Loading → Machine
+machine-of l = machine (or-else zero-registers (l .registers)) (memory-of l)
+
+-- 42: ME first and single, ST single and before RN, RN last?
+unfoldable pub in-order : Mark → Loading → (bytes-after : ℕ) → Bool
+in-order ME l n = not (has (l .memory))
+in-order ST l n = has (l .memory) && not (has (l .registers))
+in-order WD l n = has (l .memory)
+in-order RN l n = has (l .memory) && (has (l .registers) && eqb n 0)
+
+-- 43: ME ≤ 8,192?
+unfoldable pub memory-allowed : Mark → List ℕ → Bool
+memory-allowed ME bs = leb (number-at 2 4 bs) 8192
+memory-allowed ST bs = true
+memory-allowed WD bs = true
+memory-allowed RN bs = true
+
+-- 44: WD address below ME's number?
+unfoldable pub address-allowed : Mark → Loading → List ℕ → Bool
+address-allowed ME l bs = true
+address-allowed ST l bs = true
+address-allowed WD l bs = ltb (number-at 2 4 bs) (length (memory-of l))
+address-allowed RN l bs = true
+
+-- ONE RECORD, at the front of the bytes. 41: known mark and whole record? Then 42 to 44
+unfoldable pub record-questions : Mark → Loading → List ℕ → ℕ
+record-questions k l bs =
+    ask (leb (record-size k) (length bs)) 41
+    (ask (in-order k l (length (drop (record-size k) bs))) 42
+    (ask (memory-allowed k bs) 43 (ask (address-allowed k l bs) 44 yes-to-all)))
+
+unfoldable pub with-record : Mark → Loading → List ℕ → Loading
+with-record ME l bs = record { memory = some (replicate (number-at 2 4 bs) 0); registers = l .registers }
+with-record ST l bs = record { memory = l .memory; registers = some (registers-at bs) }
+with-record WD l bs = record { memory = some (set (memory-of l) (number-at 2 4 bs) (number-at 6 8 bs)); registers = l .registers }
+with-record RN l bs = l
+
+pub data Image : Type 0 where
+  refused-image : (number : ℕ) → Image
+  loaded : Machine → (budget : ℕ) → Image
+
+-- 1 to 4, once RN has come
+unfoldable pub checked : Machine → (budget : ℕ) → Image
+checked m b = unless-refused (start-questions m) refused-image (loaded m b)
+
+-- RN ends the image; after another record its bytes go on
+unfoldable pub record-on : Mark → Loading → List ℕ → (Loading → List ℕ → Image) → Image
+record-on ME l bs f = f (with-record ME l bs) (drop (record-size ME) bs)
+record-on ST l bs f = f (with-record ST l bs) (drop (record-size ST) bs)
+record-on WD l bs f = f (with-record WD l bs) (drop (record-size WD) bs)
+record-on RN l bs f = checked (machine-of l) (number-at 2 4 bs)
+
+unfoldable pub marked-on : Option Mark → Loading → List ℕ → (Loading → List ℕ → Image) → Image
+marked-on none l bs f = refused-image 41
+marked-on (some k) l bs f = unless-refused (record-questions k l bs) refused-image (record-on k l bs f)
+
+-- no bytes: a file without RN, or an empty one, is 42
+unfoldable pub bytes-on : Loading → List ℕ → (Loading → List ℕ → Image) → Image
+bytes-on l [] f = refused-image 42
+bytes-on l (b ∷ bs) f = marked-on (mark-of (b ∷ bs)) l (b ∷ bs) f
+
+-- THE IMAGE: each record takes a byte at least, so there are at most as many as bytes
+unfoldable pub image-from : (records : ℕ) → Loading → List ℕ → Image
+image-from zero l bs = refused-image 42
+image-from (suc n) l bs = bytes-on l bs (λ k rest. image-from n k rest)
+
+unfoldable pub image : List ℕ → Image
+image bs = image-from (suc (length bs)) nothing-loaded bs

@@ -1,0 +1,14 @@
+-- The machine of document 01, in its order. Assumes nothing: these are definitions.
+pub mod Words
+pub mod Registers
+pub mod Opcodes
+pub mod Questions
+pub mod Program
+pub mod Reach
+pub mod Step
+pub mod Run
+pub mod Answers
+pub mod Image
+pub mod Listing
+pub mod Bench
+pub mod Lent

@@ -1,0 +1,89 @@
+-- 01, 'The questions, in order': runs under a budget, their replies, what stands after each step, and the stretch. Assumes nothing: these are definitions.
+use mathlib.Core.Bool.{Bool, cond}
+use mathlib.Core.List.{List, [], _∷_}
+use Prim.Native.Nat.{ℕ, zero, suc}
+use lib.Dec.{ltb}
+use Rattle.model.specs.Words.{Pointer}
+use Rattle.model.specs.Registers.{Machine}
+use Rattle.model.specs.Questions.{start-questions}
+use Rattle.model.specs.Program.{Outcome, faults, completes, halts}
+use Rattle.model.specs.Step.{step}
+
+-- all that a run answers; the count is the number of completed steps, and a refusal's is 0
+pub data Reply : Type 0 where
+  refused : (number : ℕ) → Reply
+  spent : (count : ℕ) → Reply
+  halted : (count : ℕ) → Reply
+  fault : (number count : ℕ) → Pointer → Reply
+
+pub record Ran : Type 0 where
+  pub reply : Reply
+  pub machine : Machine
+
+unfoldable pub ran : Reply → Machine → Ran
+ran p m = record { reply = p; machine = m }
+
+-- 1 to 4: a no refuses the call, and else it goes ahead
+unfoldable pub unless-refused : {A : Type 0} → (answer : ℕ) → (refusal : (number : ℕ) → A) → A → A
+unless-refused zero f x = x
+unless-refused (suc n) f x = f (suc n)
+
+-- A RUN: HLT is a completed step, a faulting step isn't
+unfoldable pub run-on : (count : ℕ) → Machine → Outcome → (Machine → Ran) → Ran
+run-on c m (faults n t) f = ran (fault n c t) m
+run-on c m (halts k) f = ran (halted (suc c)) k
+run-on c m (completes k) f = f k
+
+unfoldable pub run-from : (left count : ℕ) → Machine → Ran
+run-from zero c m = ran (spent c) m
+run-from (suc n) c m = run-on c m (step m) (λ k. run-from n (suc c) k)
+
+unfoldable pub run : (budget : ℕ) → Machine → Ran
+run b m = unless-refused (start-questions m) (λ n. ran (refused n) m) (run-from b 0 m)
+
+-- what stands after step k is what the run with budget k leaves
+unfoldable pub after : (steps : ℕ) → Machine → Machine
+after k m = run k m .machine
+
+-- A SINGLE STEP as a call
+pub data StepReply : Type 0 where
+  refused : (number : ℕ) → StepReply
+  completed : StepReply
+  halted : StepReply
+  fault : (number : ℕ) → Pointer → StepReply
+
+pub record Stepped : Type 0 where
+  pub reply : StepReply
+  pub machine : Machine
+
+unfoldable pub stepped : StepReply → Machine → Stepped
+stepped p m = record { reply = p; machine = m }
+
+unfoldable pub stepped-to : Machine → Outcome → Stepped
+stepped-to m (faults n t) = stepped (StepReply.fault n t) m
+stepped-to m (halts k) = stepped StepReply.halted k
+stepped-to m (completes k) = stepped completed k
+
+unfoldable pub single-step : Machine → Stepped
+single-step m = unless-refused (start-questions m) (λ n. stepped (StepReply.refused n) m) (stepped-to m (step m))
+
+-- IPR after each completed step
+unfoldable pub trace-on : Outcome → (Machine → List Pointer) → List Pointer
+trace-on (faults n t) f = []
+trace-on (halts k) f = k .registers .ipr ∷ []
+trace-on (completes k) f = k .registers .ipr ∷ f k
+
+unfoldable pub trace-from : (left : ℕ) → Machine → List Pointer
+trace-from zero m = []
+trace-from (suc n) m = trace-on (step m) (λ k. trace-from n k)
+
+unfoldable pub trace : (budget : ℕ) → Machine → List Pointer
+trace b m = unless-refused (start-questions m) (λ n. []) (trace-from b m)
+
+-- THE STRETCH is a run: its budget is the number of steps up to and with the first that ends below ring n, or the run's own where none does
+unfoldable pub steps-to-below : (ring : ℕ) → (count otherwise : ℕ) → List Pointer → ℕ
+steps-to-below n c b [] = b
+steps-to-below n c b (p ∷ ps) = cond (ltb (p .ring) n) (suc c) (steps-to-below n (suc c) b ps)
+
+unfoldable pub stretch : (ring budget : ℕ) → Machine → ℕ
+stretch n b m = steps-to-below n 0 b (trace b m)

@@ -1,0 +1,68 @@
+-- 01, 'One step': fetch, the effective address, and what each opcode does. Assumes nothing: these are definitions.
+use mathlib.Core.Bool.{Bool, _||_, not, cond}
+use mathlib.Core.List.{List, map}
+use mathlib.Core.Option.{Option, none, some}
+use Prim.Native.Nat.{ℕ, zero, suc, max}
+use lib.Dec.{eqb}
+use lib.ListN.{length}
+use Rattle.model.specs.Words.{Descriptor, Pointer, pointer-in, indirect-in, Instruction, instruction-in}
+use Rattle.model.specs.Registers.{Registers, Machine, pr, dbr-in, with-a, with-dbr, with-ipr, with-prs, with-pr, moved-by, with-ring-at-least, advanced}
+use Rattle.model.specs.Opcodes.{Access, sets, reads, writes, updates, transfers, calls, returns, loads-dbr, ends-run, Opcode, decoded}
+use Rattle.model.specs.Questions.{dbr-fits, fetch-questions, read-questions, write-questions, transfer-questions, return-questions, new-ring, call-questions}
+use Rattle.model.specs.Program.{Program, fail, finish, halt, look, read, write, Outcome, execute}
+
+-- 2. THE EFFECTIVE ADDRESS, TPR. P off: IPR's ring and segment. P on: the PR's segment, in the larger of the two rings
+unfoldable pub first-address : Instruction → Registers → Pointer
+first-address i r = moved-by (i .offset) (cond (i .p) (with-ring-at-least (r .ipr .ring) (pr r (i .prnum))) (r .ipr))
+
+-- 3. through a pointer word w read at t: the ring is the largest of TPR's, the pointer's and R1 of the segment that holds the pointer
+unfoldable pub next-address : Pointer → Descriptor → (word : ℕ) → Pointer
+next-address t d w = with-ring-at-least (max (t .ring) (d .r1)) (pointer-in w)
+
+-- while I is on; 31, first: is the pointer word among the instruction's first 64?
+unfoldable pub chain : (left : ℕ) → (indirect : Bool) → Pointer → (Pointer → Program) → Program
+chain zero i t f = cond i (fail 31 t) (f t)
+chain (suc n) i t f = cond i (read (read-questions t) t (λ d w. chain n (indirect-in w) (next-address t d w) f)) (f t)
+
+-- an opcode without an operand forms no address, and what it does asks for none: it is handed IPR
+unfoldable pub with-operand : Opcode → Instruction → Registers → (Pointer → Program) → Program
+with-operand o i r f = cond (o .operand) (chain 64 (i .i) (first-address i r) f) (f (r .ipr))
+
+-- CALL: PR7, the stack base, becomes the new ring, the segment of the same number, word 0
+unfoldable pub stack-base : (ring : ℕ) → Pointer
+stack-base n = record { ring = n; segment = n; word = 0 }
+
+unfoldable pub called : (ring : ℕ) → Pointer → Registers → Registers
+called n t r = with-ipr (record { ring = n; segment = t .segment; word = t .word }) (with-pr 7 (stack-base n) r)
+
+-- RETURN: IPR becomes TPR, and each PR's RING is raised to at least that
+unfoldable pub returned : Pointer → Registers → Registers
+returned t r = with-ipr t (with-prs (map (with-ring-at-least (t .ring)) (r .prs)) r)
+
+-- 4. PERFORM, for each access; a step that does not move control advances IPR. 34: LENGTH ≤ 4,096 and within memory?
+unfoldable pub perform : (size : ℕ) → Access → Instruction → Registers → Pointer → Program
+perform n (sets f) i r t = finish (advanced (f i t r))
+perform n (reads f) i r t = read (read-questions t) t (λ d w. finish (advanced (with-a (f (r .a) w) r)))
+perform n (writes f) i r t = write (write-questions t) t (f i r) (advanced r)
+perform n (updates f) i r t = read (read-questions t) t (λ d w. write (write-questions t) t (f w) (advanced r))
+perform n (transfers f) i r t =
+    cond (f (r .a)) (look (transfer-questions (r .ipr) t) t (λ d. finish (with-ipr t r))) (finish (advanced r))
+perform n calls i r t = look (call-questions (r .ipr) t) t (λ d. finish (called (new-ring t d) t r))
+perform n returns i r t = look (return-questions t) t (λ d. finish (returned t r))
+perform n loads-dbr i r t =
+    read (read-questions t) t (λ d w. cond (dbr-fits n (dbr-in w)) (finish (advanced (with-dbr (dbr-in w) r))) (fail 34 t))
+perform n ends-run i r t = halt (advanced r)
+
+-- 32: opcode in the table? 33: ring 0, if privileged?
+unfoldable pub obey : (size : ℕ) → Registers → Instruction → Option Opcode → Program
+obey n r i none = fail 32 (r .ipr)
+obey n r i (some o) =
+    cond (not (o .privileged) || eqb (r .ipr .ring) 0) (with-operand o i r (perform n (o .access) i r)) (fail 33 (r .ipr))
+
+-- 1. FETCH at IPR, then the rest of the step
+unfoldable pub step-program : (size : ℕ) → Registers → Program
+step-program n r =
+    read (fetch-questions (r .ipr)) (r .ipr) (λ d w. obey n r (instruction-in w) (decoded (instruction-in w .opcode)))
+
+unfoldable pub step : Machine → Outcome
+step m = execute m (step-program (length (m .memory)) (m .registers))

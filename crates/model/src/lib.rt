@@ -1,0 +1,1 @@
+// The model holds definitions (specs/) and their laws (proofs/), and no code.
