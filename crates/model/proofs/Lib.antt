@@ -1,6 +1,11 @@
 -- Laws of the definitions, and the proved cases. Assumes nothing.
 pub mod BranchLaws
+pub mod ListLaws
+pub mod WordLaws
 pub mod QuestionLaws
 pub mod TableLaws
 pub mod ProgramLaws
+pub mod LeavesLaws
+pub mod FitLaws
+pub mod SoundLaws
 pub mod Cases

@@ -6,6 +6,7 @@ pub mod Questions
 pub mod Program
 pub mod Reach
 pub mod Step
+pub mod Sound
 pub mod Run
 pub mod Answers
 pub mod Image
