@@ -8,4 +8,7 @@ pub mod ProgramLaws
 pub mod LeavesLaws
 pub mod FitLaws
 pub mod SoundLaws
+pub mod RunLaws
+pub mod EndsLaws
+pub mod CountLaws
 pub mod Cases

@@ -1,13 +1,12 @@
 -- What a passed use says of its address, and one step of the interpreter. Assumes nothing.
 use mathlib.Core.Path.{_≡_, refl}
-use mathlib.Core.List.{List}
 use Prim.Native.Nat.{ℕ, zero, suc, _+_, _≤_, _<_}
 use native.Mathlib.Omega.{arith}
-use lib.ListN.{length, set}
-use Rattle.model.specs.Words.{Descriptor, Pointer}
-use Rattle.model.specs.Registers.{Registers, Machine, machine}
+use lib.ListN.{length, length-set}
+use Rattle.model.specs.Words.{Pointer}
+use Rattle.model.specs.Registers.{Machine, machine}
 use Rattle.model.specs.Questions.{Question, use-questions}
-use Rattle.model.specs.Program.{Program, look, read, write, Outcome, faults, completes, descriptor-of, absolute-address, word-at, use-answer, or-fault, execute}
+use Rattle.model.specs.Program.{Program, fail, finish, halt, look, read, write, Outcome, faults, completes, halts, descriptor-of, absolute-address, use-answer, or-fault, execute}
 use Rattle.model.proofs.QuestionLaws.{then-ask-yes, use-passes-segment, word-within-segment, segment-within-memory}
 
 -- 11 to 15 of a use, for short
@@ -37,3 +36,23 @@ or-fault-no (suc n) t x h = refl
 pub or-fault-yes : (n : ℕ) (t : Pointer) (x : Outcome) → n ≡ 0 → or-fault n t x ≡ x
 unfolding or-fault
 or-fault-yes n t x e = rw e
+
+-- MEMORY KEEPS ITS SIZE
+abbrev pub Size-kept : ℕ → Outcome → Type 0
+Size-kept n (faults c t) = Unit {0}
+Size-kept n (completes k) = length (k .memory) ≡ n
+Size-kept n (halts k) = length (k .memory) ≡ n
+
+size-kept-unless-fault : (n c : ℕ) (t : Pointer) (x : Outcome) → Size-kept n x → Size-kept n (or-fault c t x)
+unfolding or-fault
+size-kept-unless-fault n zero t x h = h
+size-kept-unless-fault n (suc c) t x h = tt
+
+pub execute-keeps-size : (m : Machine) (p : Program) → Size-kept (length (m .memory)) (execute m p)
+unfolding execute machine
+execute-keeps-size m (fail c t) = tt
+execute-keeps-size m (finish r) = refl
+execute-keeps-size m (halt r) = refl
+execute-keeps-size m (look q t f) = size-kept-unless-fault _ (use-answer m t q) t _ (execute-keeps-size m (f _))
+execute-keeps-size m (read q t f) = size-kept-unless-fault _ (use-answer m t q) t _ (execute-keeps-size m (f _ _))
+execute-keeps-size m (write q t v r) = size-kept-unless-fault _ (use-answer m t q) t _ (length-set (m .memory) (absolute-address m t) v)

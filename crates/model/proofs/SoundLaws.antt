@@ -223,7 +223,6 @@ unfolding step
 step-left m s = leaves-law m (s .memory-is-words) (step-program (length (m .memory)) (m .registers)) (step-leaves (sound-fits m s))
 
 pub step-keeps-sound : Step-keeps-sound
-unfolding Step-keeps-sound
 step-keeps-sound m k s (inl e) = by-completed (subst (Outcome-left _ (m .memory)) e (step-left m s))
   where
     by-completed : Outcome-left (Fit (length (m .memory)) (length (m .registers .prs))) (m .memory) (completes k) → Kept m k

@@ -102,12 +102,9 @@ address-allowed ST l bs = true
 address-allowed WD l bs = ltb (number-at 2 4 bs) (length (memory-of l))
 address-allowed RN l bs = true
 
--- ONE RECORD, at the front of the bytes. 41: known mark and whole record? Then 42 to 44
-unfoldable pub record-questions : Mark → Loading → List ℕ → ℕ
-record-questions k l bs =
-    ask (leb (record-size k) (length bs)) 41
-    (ask (in-order k l (length (drop (record-size k) bs))) 42
-    (ask (memory-allowed k bs) 43 (ask (address-allowed k l bs) 44 yes-to-all)))
+-- ONE RECORD, at the front of the bytes. 42 to 44 of a whole one, with so many bytes after it
+unfoldable pub record-questions : Mark → Loading → (bytes-after : ℕ) → List ℕ → ℕ
+record-questions k l n bs = ask (in-order k l n) 42 (ask (memory-allowed k bs) 43 (ask (address-allowed k l bs) 44 yes-to-all))
 
 unfoldable pub with-record : Mark → Loading → List ℕ → Loading
 with-record ME l bs = record { memory = some (replicate (number-at 2 4 bs) 0); registers = l .registers }
@@ -123,16 +120,22 @@ pub data Image : Type 0 where
 unfoldable pub checked : Machine → (budget : ℕ) → Image
 checked m b = unless-refused (start-questions m) refused-image (loaded m b)
 
--- RN ends the image; after another record its bytes go on
-unfoldable pub record-on : Mark → Loading → List ℕ → (Loading → List ℕ → Image) → Image
-record-on ME l bs f = f (with-record ME l bs) (drop (record-size ME) bs)
-record-on ST l bs f = f (with-record ST l bs) (drop (record-size ST) bs)
-record-on WD l bs f = f (with-record WD l bs) (drop (record-size WD) bs)
+-- RN ends the image; after another record it goes on
+unfoldable pub record-on : Mark → Loading → List ℕ → (Loading → Image) → Image
+record-on ME l bs f = f (with-record ME l bs)
+record-on ST l bs f = f (with-record ST l bs)
+record-on WD l bs f = f (with-record WD l bs)
 record-on RN l bs f = checked (machine-of l) (number-at 2 4 bs)
 
+unfoldable pub whole-record-on : Mark → Loading → (bytes-after : ℕ) → List ℕ → (Loading → Image) → Image
+whole-record-on k l n bs f = unless-refused (record-questions k l n bs) refused-image (record-on k l bs f)
+
+-- 41: known mark and whole record?
 unfoldable pub marked-on : Option Mark → Loading → List ℕ → (Loading → List ℕ → Image) → Image
 marked-on none l bs f = refused-image 41
-marked-on (some k) l bs f = unless-refused (record-questions k l bs) refused-image (record-on k l bs f)
+marked-on (some k) l bs f =
+    let rest = drop (record-size k) bs in
+    cond (leb (record-size k) (length bs)) (whole-record-on k l (length rest) bs (λ j. f j rest)) (refused-image 41)
 
 -- no bytes: a file without RN, or an empty one, is 42
 unfoldable pub bytes-on : Loading → List ℕ → (Loading → List ℕ → Image) → Image
@@ -144,5 +147,9 @@ unfoldable pub image-from : (records : ℕ) → Loading → List ℕ → Image
 image-from zero l bs = refused-image 42
 image-from (suc n) l bs = bytes-on l bs (λ k rest. image-from n k rest)
 
+-- the bytes that come after the records so far
+unfoldable pub image-after : Loading → List ℕ → Image
+image-after l bs = image-from (suc (length bs)) l bs
+
 unfoldable pub image : List ℕ → Image
-image bs = image-from (suc (length bs)) nothing-loaded bs
+image bs = image-after nothing-loaded bs

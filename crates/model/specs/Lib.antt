@@ -9,6 +9,7 @@ pub mod Step
 pub mod Sound
 pub mod Run
 pub mod Answers
+pub mod Ends
 pub mod Image
 pub mod Listing
 pub mod Bench

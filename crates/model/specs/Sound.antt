@@ -26,5 +26,5 @@ pub record Kept (m k : Machine) : Type 0 where
   pub size-kept : length (k .memory) ≡ length (m .memory)
   pub prs-kept : length (k .registers .prs) ≡ length (m .registers .prs)
 
-unfoldable pub Step-keeps-sound : Type 0
+abbrev pub Step-keeps-sound : Type 0
 Step-keeps-sound = (m k : Machine) → Sound m → (step m ≡ completes k) ⊎ (step m ≡ halts k) → Kept m k
