@@ -11,4 +11,6 @@ pub mod SoundLaws
 pub mod RunLaws
 pub mod EndsLaws
 pub mod CountLaws
+pub mod ImageLaws
+pub mod ListingLaws
 pub mod Cases

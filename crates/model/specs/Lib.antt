@@ -12,5 +12,6 @@ pub mod Answers
 pub mod Ends
 pub mod Image
 pub mod Listing
+pub mod Records
 pub mod Bench
 pub mod Lent

@@ -1,0 +1,59 @@
+-- A listing is its lines one after another. Assumes nothing.
+use mathlib.Core.Path.{_≡_, refl, sym, _∙_, ap, ap₂, subst}
+use mathlib.Core.List.{List, [], _∷_, _++_, append-assoc}
+use Prim.Native.Nat.{ℕ, zero, suc, _+_, _≤_, _<_}
+use native.Mathlib.Omega.{arith}
+use lib.ListN.{length}
+use Rattle.model.specs.Words.{Pointer}
+use Rattle.model.specs.Registers.{Machine}
+use Rattle.model.specs.Sound.{Sound}
+use Rattle.model.specs.Run.{Reply, spent, Ran, ran, run, after, trace-from, trace}
+use Rattle.model.specs.Answers.{numbers, reply-numbers}
+use Rattle.model.specs.Ends.{Steps, no-step, one-more, Ends, by-refusal, by-fault, by-halt, by-budget}
+use Rattle.model.specs.Listing.{step-line, step-lines, last-line, listing}
+use Rattle.model.specs.Records.{Listing-is-lines}
+use Rattle.model.proofs.RunLaws.{trace-completes, trace-goes}
+use Rattle.model.proofs.EndsLaws.{run-ends, ends-once}
+use Rattle.model.proofs.CountLaws.{steps-keep-sound}
+
+pub step-lines-append : (c : ℕ) (ps qs : List Pointer) → step-lines c (ps ++ qs) ≡ step-lines c ps ++ step-lines (c + length ps) qs
+unfolding step-lines
+step-lines-append c [] qs = ap (λ z. step-lines z qs) (omega arith)
+step-lines-append c (p ∷ ps) qs =
+    ap (λ t. step-line (suc c) p ++ t) (step-lines-append (suc c) ps qs)
+    ∙ sym (append-assoc (step-line (suc c) p) (step-lines (suc c) ps) (step-lines (suc c + length ps) qs))
+    ∙ ap (λ z. step-line (suc c) p ++ step-lines (suc c) ps ++ step-lines z qs) (omega arith)
+
+pub steps-trace : {j : ℕ} {m k : Machine} → Steps j m k → (b : ℕ) → trace-from (j + b) m ≡ trace-from j m ++ trace-from b k
+unfolding trace-from
+steps-trace {m} no-step b = let e : 0 + b ≡ b = omega arith in ap (λ x. trace-from x m) e
+steps-trace {m} {k} (one-more {n = n} {l = l} e s) b =
+    ap (λ x. trace-from x m) (let z : suc n + b ≡ suc (n + b) = omega arith in z) ∙ trace-completes (n + b) m l e ∙ ap (λ t. l .registers .ipr ∷ t) (steps-trace s b)
+    ∙ ap (λ t. t ++ trace-from b k) (sym (trace-completes n m l e))
+
+steps-trace-length : {j : ℕ} {m k : Machine} → Steps j m k → length (trace-from j m) ≡ j
+unfolding trace-from
+steps-trace-length no-step = refl
+steps-trace-length {m} (one-more {n = n} {l = l} e s) = ap length (trace-completes n m l e) ∙ ap suc (steps-trace-length s)
+
+pub listing-is-lines : Listing-is-lines
+unfolding listing after ran reply-numbers numbers
+listing-is-lines j k m sound e = by-ends (run-ends j m) e refl
+  where
+    kind-of : Reply → ℕ
+    kind-of p = reply-numbers p .kind
+
+    last : List ℕ
+    last = last-line (run (j + k) m .reply)
+
+    by-ends : {x : Ran} → Ends j m x → x .reply ≡ spent j → x ≡ run j m →
+        step-lines 0 (trace (j + k) m) ++ last ≡ step-lines 0 (trace j m) ++ step-lines j (trace k (run j m .machine)) ++ last
+    by-ends (by-refusal q) f same = absurd (let z = ap kind-of f in omega arith)
+    by-ends (by-fault q s h g) f same = absurd (let z = ap kind-of f in omega arith)
+    by-ends (by-halt q s h g) f same = absurd (let z = ap kind-of f in omega arith)
+    by-ends (by-budget {k = l} q s) f same =
+        ap (λ t. step-lines 0 t ++ last) (trace-goes (j + k) m q ∙ steps-trace s k)
+        ∙ ap (λ t. t ++ last) (step-lines-append 0 (trace-from j m) (trace-from k l))
+        ∙ ap₂ (λ z t. step-lines 0 t ++ step-lines z (trace-from k l) ++ last) (omega (arith, steps-trace-length s)) (sym (trace-goes j m q))
+        ∙ ap (λ t. step-lines 0 (trace j m) ++ step-lines j t ++ last) (sym (trace-goes k l (steps-keep-sound s sound .passes)))
+        ∙ ap (λ (x : Ran). step-lines 0 (trace j m) ++ step-lines j (trace k (x .machine)) ++ last) same

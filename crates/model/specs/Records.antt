@@ -1,0 +1,27 @@
+-- Statements on images and listings: each is its parts one after another. Assumes nothing: these are definitions.
+use mathlib.Core.Path.{_≡_}
+use mathlib.Core.List.{List, [], _++_}
+use mathlib.Core.Option.{some}
+use Prim.Native.Nat.{ℕ, _+_}
+use lib.ListN.{length}
+use Rattle.model.specs.Registers.{Machine}
+use Rattle.model.specs.Image.{Mark, mark-of, record-size, Loading, refused-image, whole-record-on, image-after}
+use Rattle.model.specs.Sound.{Sound}
+use Rattle.model.specs.Run.{spent, run, after, trace}
+use Rattle.model.specs.Listing.{step-lines, last-line, listing}
+
+-- an image is its records one after another: a whole record is judged by its own bytes and by whether any follow, and the rest comes after it
+abbrev pub Image-is-records : Type 0
+Image-is-records =
+    (k : Mark) (l : Loading) (one rest : List ℕ) → mark-of one ≡ some k → length one ≡ record-size k →
+    image-after l (one ++ rest) ≡ whole-record-on k l (length rest) one (λ j. image-after j rest)
+
+-- without a record more it is 42
+abbrev pub Image-needs-rn : Type 0
+Image-needs-rn = (l : Loading) → image-after l [] ≡ refused-image 42
+
+-- a listing is its lines one after another: those of j steps, those of the steps from what they left, numbered on, and the last line
+abbrev pub Listing-is-lines : Type 0
+Listing-is-lines =
+    (j k : ℕ) (m : Machine) → Sound m → run j m .reply ≡ spent j →
+    listing (j + k) m ≡ step-lines 0 (trace j m) ++ step-lines j (trace k (after j m)) ++ last-line (run (j + k) m .reply)
