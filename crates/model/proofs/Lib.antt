@@ -13,4 +13,4 @@ pub mod EndsLaws
 pub mod CountLaws
 pub mod ImageLaws
 pub mod ListingLaws
-pub mod Cases
+pub mod CasesHold

@@ -15,3 +15,5 @@ pub mod Listing
 pub mod Records
 pub mod Bench
 pub mod Lent
+pub mod Notation
+pub mod Cases
