@@ -17,3 +17,4 @@ pub mod Bench
 pub mod Lent
 pub mod Notation
 pub mod Cases
+pub mod Readings

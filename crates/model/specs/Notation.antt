@@ -27,9 +27,12 @@ unfoldable pub segment : (address length r1 r2 r3 : ℕ) → (flags : String) �
 segment a l r1 r2 r3 s g =
     a + l * 2 ^ 24 + r1 * 2 ^ 40 + r2 * 2 ^ 43 + r3 * 2 ^ 46 + flag "R" s * 2 ^ 49 + flag "W" s * 2 ^ 50 + flag "E" s * 2 ^ 51 + flag "V" s * 2 ^ 52 + g * 2 ^ 53
 
--- instruction words: LDI with its literal, an opcode by a PR, and the same with I on; REG 5 in each
+-- instruction words: LDI with its literal, an opcode by IPR with an OFFSET, by a PR, and by a PR with I on; REG 5 in each
 unfoldable pub literal : ℕ → ℕ
 literal v = LDI .number * 2 ^ 24 + v * 2 ^ 32
+
+unfoldable pub by-ipr : Opcode → (offset : ℕ) → ℕ
+by-ipr o k = k + 5 * 2 ^ 21 + o .number * 2 ^ 24
 
 unfoldable pub by-pr : Opcode → (prnum : ℕ) → ℕ
 by-pr o k = k * 2 ^ 16 + 2 ^ 19 + 5 * 2 ^ 21 + o .number * 2 ^ 24

@@ -1,0 +1,66 @@
+-- How 01 is read where it leaves a choice (docs/DECISIONS.md), each reading as a fact of the definitions. Assumes nothing: these are definitions.
+use mathlib.Core.List.{List, [], _∷_, _++_}
+use Prim.Native.Nat.{ℕ, _+_}
+use Rattle.model.specs.Registers.{Registers, Machine}
+use Rattle.model.specs.Opcodes.{AOS, EAP, TRA, TZE, CALL, LDBR, HLT}
+use Rattle.model.specs.Listing.{ascii}
+use Rattle.model.specs.Notation.{pointer, segment, by-ipr, by-pr, indirect-by-pr, bytes, ST-record, WD-records, image-of}
+use Rattle.model.specs.Cases.{step-faults, ipr-becomes, pr-becomes, word-becomes, run-lists, image-prints, Holds, about-to-do, about-to, case-12-registers}
+
+-- the instruction and one word in segment 1
+unfoldable pub doing : (instruction ring segment-1 word : ℕ) → Machine
+doing i n d w = about-to-do i n (pointer n 1 0) d (w ∷ [])
+
+-- case 12's registers with another DBR
+unfoldable pub with-descriptors : (address length : ℕ) → Registers
+with-descriptors a l =
+    record { a = 0; dbr = record { address = a; length = l }; ipr = case-12-registers .ipr; prs = case-12-registers .prs }
+
+unfoldable pub started : List ℕ
+started = ascii "ME" ++ bytes 4 64 ++ ST-record case-12-registers
+
+unfoldable pub ended : List ℕ
+ended = ascii "RN" ++ bytes 4 0
+
+pub record Readings : Type 0 where
+  -- IMAGES are judged record by record: a bad record's number comes before anything that a later record would get
+  pub empty-file-is-42 : Holds (image-prints [] "refused 42\n")
+  pub file-without-RN-is-42 : Holds (image-prints started "refused 42\n")
+  pub stray-byte-at-a-record's-start-is-41 : Holds (image-prints (started ++ (87 ∷ [])) "refused 41\n")
+  pub stray-byte-after-RN-is-42 : Holds (image-prints (started ++ ended ++ (87 ∷ [])) "refused 42\n")
+  pub earlier-record's-44-comes-before-41 : Holds (image-prints (started ++ WD-records ((64, 0) ∷ []) ++ (87 ∷ [])) "refused 44\n")
+  pub second-ME-is-42 : Holds (image-prints (started ++ started) "refused 42\n")
+  pub second-ST-is-42 : Holds (image-prints (started ++ ST-record case-12-registers ++ ended) "refused 42\n")
+  pub RN-before-ST-is-42 : Holds (image-prints (ascii "ME" ++ bytes 4 64 ++ ended) "refused 42\n")
+  pub WD-before-ME-is-42 : Holds (image-prints (WD-records ((0, 0) ∷ []) ++ started ++ ended) "refused 42\n")
+  pub ME-above-8192-is-43 : Holds (image-prints (ascii "ME" ++ bytes 4 8193) "refused 43\n")
+  pub later-WD-wins :
+      Holds (image-prints (started ++ WD-records ((4, segment 16 8 4 4 4 "R E V" 0) ∷ (4, segment 16 8 4 4 4 "R V" 0) ∷ []) ++ (ascii "RN" ++ bytes 4 1)) "fault 21 0 4 4 0\n")
+  -- WITHIN MEMORY with LENGTH 0 lets ADDRESS equal the memory's length, and no more: 4, and 34
+  pub empty-descriptor-segment-at-the-end-passes-4 : Holds (image-prints (image-of 64 (with-descriptors 64 0) [] 1) "fault 11 0 4 4 0\n")
+  pub empty-descriptor-segment-past-the-end-is-4 : Holds (image-prints (image-of 64 (with-descriptors 65 0) [] 1) "refused 4\n")
+  pub LDBR-of-the-end-passes-34 : Holds (ipr-becomes (doing (by-pr LDBR 1) 0 (segment 3 1 0 0 0 "R V" 0) 4) (pointer 0 0 1))
+  pub LDBR-past-the-end-is-34 : Holds (step-faults (doing (by-pr LDBR 1) 0 (segment 3 1 0 0 0 "R V" 0) 5) 34 (pointer 0 1 0))
+  -- 11 TO 15 come before every question by use, 24 included
+  pub V-off-comes-before-24 : Holds (step-faults (about-to TRA 4 5 0 (segment 3 4 4 5 5 "E" 0)) 12 (pointer 5 1 0))
+  pub another-ring-is-24 : Holds (step-faults (about-to TRA 4 5 0 (segment 3 4 4 5 5 "E V" 0)) 24 (pointer 5 1 0))
+  -- SAME SEGMENT in 27 is equal SEGNO, and not the same words
+  pub call-within-the-segment-needs-no-gate : Holds (ipr-becomes (doing (by-ipr CALL 0) 4 0 0) (pointer 4 0 0))
+  pub same-words-by-another-segment-is-27 : Holds (step-faults (doing (by-pr CALL 1) 4 (segment 2 1 4 4 4 "E V" 0) 0) 27 (pointer 4 1 0))
+  pub new-ring-is-TPR's-below-R2 : Holds (ipr-becomes (about-to CALL 4 4 1 (segment 3 4 2 5 5 "E V" 2)) (pointer 4 1 1))
+  -- EAP AND A TRANSFER NOT TAKEN ask nothing of the target, yet every pointer word on the way is asked
+  pub EAP-of-an-unreadable-target : Holds (pr-becomes (about-to EAP 4 4 2 0) 5 (pointer 4 1 2))
+  pub TZE-not-taken : Holds (ipr-becomes (about-to TZE 4 4 2 0) (pointer 4 0 1))
+  pub unreadable-pointer-word-of-TZE-is-22 : Holds (step-faults (doing (indirect-by-pr TZE 1) 4 (segment 3 1 4 4 4 "W V" 0) 0) 22 (pointer 4 1 0))
+  -- AOS asks 22, then 23, before it stores
+  pub AOS-stores : Holds (word-becomes (about-to AOS 4 4 2 (segment 3 4 4 4 4 "R W V" 0)) 5 13)
+  pub AOS-without-W-is-23 : Holds (step-faults (about-to AOS 4 4 2 (segment 3 4 4 4 4 "R V" 0)) 23 (pointer 4 1 2))
+  pub AOS-without-R-and-W-is-22 : Holds (step-faults (about-to AOS 4 4 2 (segment 3 4 4 4 4 "V" 0)) 22 (pointer 4 1 2))
+  -- 32 AND 33 have IPR's address
+  pub unknown-opcode-is-32 : Holds (step-faults (doing 0 4 0 0) 32 (pointer 4 0 0))
+  pub HLT-above-ring-0-is-33 : Holds (step-faults (doing (by-pr HLT 1) 4 0 0) 33 (pointer 4 0 0))
+  -- HLT advances IPR and has its step line
+  pub HLT-is-listed : Holds (run-lists 5 (doing (by-pr HLT 1) 0 0 0) "1 0 0 1\nhalted 1\n")
+  pub no-budget-is-spent : Holds (run-lists 0 (doing (by-pr HLT 1) 0 0 0) "spent 0\n")
+  -- WORD NUMBERS go round from 65,535 to 0
+  pub offset-goes-round : Holds (pr-becomes (about-to-do (by-pr EAP 1 + 3) 4 (pointer 4 1 65535) 0 []) 5 (pointer 4 1 2))
