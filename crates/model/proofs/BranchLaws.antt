@@ -1,6 +1,6 @@
 -- Branches and tests: what a relation or a property of both arms says of the whole, and what a test's value says of its parts. Assumes nothing.
 use mathlib.Core.Path.{_≡_, refl, sym, _∙_, subst}
-use mathlib.Core.Bool.{Bool, true, false, _&&_, _||_, not, cond, true≢false, false≢true}
+use mathlib.Core.Bool.{Bool, true, false, _&&_, _||_, not, cond, false≢true}
 
 -- a relation goes through a branch on two equal tests
 pub cond-rel {ℓ ℓ′ κ} : {A : Type ℓ} {B : Type ℓ′} (R : A → B → Type κ) {b c : Bool} {x y : A} {x′ y′ : B} →

@@ -1,25 +1,11 @@
 -- The thirteen cases and the readings of 01 hold of the definitions, by computation. Assumes nothing.
 use mathlib.Core.Path.{refl}
-use Rattle.model.specs.Words.{field, on, descriptor-in, pointer-in, indirect-in, pointer-word, instruction-in}
-use Rattle.model.specs.Registers.{machine, pr, dbr-in, with-a, with-dbr, with-ipr, with-prs, with-pr, moved-by, with-ring-at-least, advanced}
-use Rattle.model.specs.Opcodes.{bitwise, count-of-ones, sum, difference, LDA, STA, ADA, SBA, ANA, ORA, XRA, CNT, AOS, LDI, EAP, SPP, TRA, TZE, TMI, CALL, RETURN, LDBR, HLT, opcodes, entry, decoded}
-use Rattle.model.specs.Questions.{ask, then-ask, all, memory-fits, pointer-in-range, registers-in-range, rings-at-least, dbr-fits, start-questions, segment-questions, use-questions, may-execute, may-read, may-write, fetch-questions, read-questions, write-questions, return-questions, transfer-questions, new-ring, call-questions}
-use Rattle.model.specs.Program.{descriptor-of, absolute-address, word-at, use-answer, or-fault, execute}
-use Rattle.model.specs.Step.{first-address, next-address, chain, with-operand, stack-base, called, returned, perform, obey, step-program, step}
-use Rattle.model.specs.Run.{ran, unless-refused, run-on, run-from, run, trace-on, trace-from, trace}
-use Rattle.model.specs.Image.{marked, mark-of, record-size, big-endian, number-at, pointer-at, pointers-at, registers-at, has, or-else, memory-of, machine-of, in-order, memory-allowed, address-allowed, record-questions, with-record, checked, record-on, whole-record-on, marked-on, bytes-on, image-from, image-after, image}
-use Rattle.model.specs.Listing.{ascii, digits, decimal, line, step-line, step-lines, last-line, listing, image-listing, image-text}
-use Rattle.model.specs.Notation.{pointer, has-letter, flag, segment, literal, by-ipr, by-pr, indirect-by-pr, indirect-word, storing, bytes, pointer-bytes, pointers-bytes, ST-record, WD-records, image-of}
 use Rattle.model.specs.Cases.{left-by, Holds, about-to-do, about-to, gated, through-pointer, returning, case-12-registers, case-12-words, case-12, pointers-up, through-pointers, case, thirteen, All-hold, Cases-hold}
 use Rattle.model.specs.Readings.{doing, with-descriptors, started, ended, Readings}
-
--- all that a case computes with
-computing : Unit {0}
-unfolding field on descriptor-in pointer-in indirect-in pointer-word instruction-in machine pr dbr-in with-a with-dbr with-ipr with-prs with-pr moved-by with-ring-at-least advanced bitwise count-of-ones sum difference LDA STA ADA SBA ANA ORA XRA CNT AOS LDI EAP SPP TRA TZE TMI CALL RETURN LDBR HLT opcodes entry decoded ask then-ask all memory-fits pointer-in-range registers-in-range rings-at-least dbr-fits start-questions segment-questions use-questions may-execute may-read may-write fetch-questions read-questions write-questions return-questions transfer-questions new-ring call-questions descriptor-of absolute-address word-at use-answer or-fault execute first-address next-address chain with-operand stack-base called returned perform obey step-program step ran unless-refused run-on run-from run trace-on trace-from trace marked mark-of record-size big-endian number-at pointer-at pointers-at registers-at has or-else memory-of machine-of in-order memory-allowed address-allowed record-questions with-record checked record-on whole-record-on marked-on bytes-on image-from image-after image ascii digits decimal line step-line step-lines last-line listing image-listing image-text pointer has-letter flag segment literal by-pr indirect-by-pr indirect-word storing bytes pointer-bytes pointers-bytes ST-record WD-records image-of left-by Holds about-to-do about-to gated through-pointer returning case-12-registers case-12-words case-12 pointers-up through-pointers case thirteen All-hold Cases-hold by-ipr doing with-descriptors started ended
-computing = tt
+use Rattle.model.proofs.Computing.{by-computation}
 
 pub thirteen-cases-hold : Cases-hold thirteen
-unfolding computing
+unfolding by-computation left-by Holds about-to-do about-to gated through-pointer returning case-12-registers case-12-words case-12 pointers-up through-pointers case thirteen All-hold Cases-hold
 thirteen-cases-hold = (
   ((refl, refl), tt),
   (
@@ -59,7 +45,7 @@ thirteen-cases-hold = (
 )
 
 pub readings-hold : Readings
-unfolding computing
+unfolding by-computation left-by Holds about-to-do about-to case-12-registers doing with-descriptors started ended
 readings-hold =
     record {
       empty-file-is-42 = refl;

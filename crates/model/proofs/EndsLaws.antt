@@ -1,21 +1,15 @@
 -- Why a run ends, its count, and how runs follow on one another. Assumes nothing.
 use mathlib.Core.Path.{_≡_, refl, sym, _∙_, ap, ap₂, subst}
-use mathlib.Core.Bool.{true}
-use mathlib.Core.List.{List, [], _∷_}
-use mathlib.Core.Logic.{inl}
-use Prim.Native.Nat.{ℕ, zero, suc, _+_, _-_, _≤_, _<_}
+use Prim.Native.Nat.{ℕ, zero, suc, _+_, _-_, _<_}
 use native.Mathlib.Omega.{arith}
-use lib.ListN.{length}
 use Rattle.model.specs.Words.{Pointer}
 use Rattle.model.specs.Registers.{Machine}
 use Rattle.model.specs.Questions.{start-questions}
-use Rattle.model.specs.Program.{Outcome, faults, completes, halts}
+use Rattle.model.specs.Program.{faults, completes, halts}
 use Rattle.model.specs.Step.{step}
-use Rattle.model.specs.Sound.{Sound}
-use Rattle.model.specs.Run.{Reply, refused, spent, halted, fault, Ran, ran, run-from, run, after, trace-from, trace}
-use Rattle.model.specs.Ends.{Steps, no-step, one-more, Ends, by-refusal, by-fault, by-halt, by-budget, Run-ends, Ends-once, counted-from, Run-continues, Run-stays}
-use Rattle.model.proofs.SoundLaws.{step-keeps-sound}
-use Rattle.model.proofs.RunLaws.{Next, next-faults, next-halts, next-completes, next, run-faults, run-halts, run-completes, run-refused, run-goes, along-run}
+use Rattle.model.specs.Run.{spent, halted, fault, Ran, ran, run-from, run}
+use Rattle.model.specs.Ends.{Steps, no-step, one-more, Ends, by-refusal, by-fault, by-halt, by-budget, Run-ends, Ends-once}
+use Rattle.model.proofs.RunLaws.{run-faults, run-halts, run-completes, run-refused, run-goes, along-run}
 
 -- WHY A RUN ENDS, after c steps were counted before it
 pub data Ends-from (b c : ℕ) (m : Machine) : Ran → Type 0 where
@@ -38,7 +32,12 @@ run-ends-from =
         subst (λ z. Ends-from (suc b) c m (ran (halted (suc z)) h)) (omega arith) (halt-from (suc j) k h (one-more e s) (omega arith) f)
     after-step b c m l e (budget-from k s) = subst (λ z. Ends-from (suc b) c m (ran (spent z) k)) (omega arith) (budget-from k (one-more e s))
 
--- THE STEPS BEFORE, done as a run
+-- THE STEPS BEFORE, and one more
+pub steps-then : {j : ℕ} {m k l : Machine} → Steps j m k → step k ≡ completes l → Steps (suc j) m l
+steps-then no-step e = one-more e no-step
+steps-then (one-more f s) e = one-more f (steps-then s e)
+
+-- done as a run
 pub steps-run : {j : ℕ} {m k : Machine} → Steps j m k → (b c : ℕ) → run-from (j + b) c m ≡ run-from b (c + j) k
 steps-run {m} no-step b c = ap₂ (λ x y. run-from x y m) (omega arith) (omega arith)
 steps-run {m} {k} (one-more {n = n} {l = l} e s) b c =

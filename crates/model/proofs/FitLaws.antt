@@ -1,11 +1,11 @@
 -- Registers that pass 2 to 4, and that each change a step makes keeps them so. Assumes nothing.
 use mathlib.Core.Path.{_≡_, refl, _∙_}
-use mathlib.Core.Bool.{Bool, true}
-use mathlib.Core.List.{List, map}
-use Prim.Native.Nat.{ℕ, _+_, _≤_, max}
+use mathlib.Core.Bool.{true}
+use mathlib.Core.List.{List}
+use Prim.Native.Nat.{ℕ, _≤_}
 use native.Mathlib.Omega.{arith}
 use lib.Dec.{leb}
-use lib.ListN.{length, set, length-set, length-map}
+use lib.ListN.{length, length-set, length-map}
 use borrow.Author.Tests.{leb-true, le-leb}
 use Rattle.model.specs.Words.{Pointer}
 use Rattle.model.specs.Registers.{Dbr, Registers, zero-pointer, pr, with-a, with-dbr, with-ipr, with-prs, with-pr, moved-by, with-ring-at-least, advanced}

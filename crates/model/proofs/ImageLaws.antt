@@ -1,18 +1,16 @@
 -- An image is its records one after another. Assumes nothing.
-use mathlib.Core.Path.{_≡_, refl, sym, _∙_, ap, ap₂, subst}
-use mathlib.Core.Bool.{Bool, true, false, _&&_, cond}
+use mathlib.Core.Path.{_≡_, refl, _∙_, ap, ap₂}
+use mathlib.Core.Bool.{true}
 use mathlib.Core.List.{List, [], _∷_, _++_}
 use mathlib.Core.Option.{Option, none, some}
-use Prim.Native.Nat.{ℕ, zero, suc, _+_, _*_, _-_, _≤_, _<_}
-use Prim.Native.Char.{Char, code}
+use Prim.Native.Nat.{ℕ, zero, suc, _+_, _*_, _≤_, _<_}
 use native.Mathlib.Omega.{arith}
-use lib.Dec.{leb, eqb}
-use lib.ListN.{length, getD, take, drop, length-append, length-drop, List·getD-append}
+use lib.Dec.{leb}
+use lib.ListN.{length, take, drop, length-append, length-drop, List·getD-append}
 use lib.Seq.{take-append-le, drop-append-le, drop-at}
 use borrow.Author.Tests.{leb-true, le-leb}
-use Rattle.model.specs.Words.{Pointer}
 use Rattle.model.specs.Run.{unless-refused}
-use Rattle.model.specs.Image.{Mark, ME, ST, WD, RN, marked, mark-of, record-size, big-endian, number-at, pointer-at, pointers-at, registers-at, Loading, memory-of, in-order, memory-allowed, address-allowed, record-questions, with-record, Image, refused-image, record-on, whole-record-on, marked-on, bytes-on, image-from, image-after}
+use Rattle.model.specs.Image.{Mark, ME, ST, WD, RN, marked, mark-of, record-size, big-endian, number-at, pointer-at, pointers-at, registers-at, Loading, memory-allowed, address-allowed, record-questions, with-record, Image, refused-image, record-on, whole-record-on, marked-on, bytes-on, image-from, image-after}
 use Rattle.model.specs.Records.{Image-is-records, Image-needs-rn}
 use Rattle.model.proofs.BranchLaws.{cond-rel}
 

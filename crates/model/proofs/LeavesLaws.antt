@@ -1,11 +1,10 @@
 -- What holds of the registers and words that a step leaves: one law for every program of questions, that never sees an opcode. Assumes nothing.
-use mathlib.Core.Path.{_≡_, refl, sym, _∙_, ap}
-use mathlib.Core.Bool.{Bool, true}
+use mathlib.Core.Path.{_≡_, refl}
+use mathlib.Core.Bool.{true}
 use mathlib.Core.List.{List}
-use Prim.Native.Nat.{ℕ, zero, suc, _+_, _^_, _≤_, _<_}
+use Prim.Native.Nat.{ℕ, zero, suc, _+_, _≤_}
 use native.Mathlib.Omega.{arith}
-use lib.ListN.{length, getD, set, length-set}
-use borrow.Author.Tests.{ltb-true}
+use lib.ListN.{length, getD, length-set}
 use Rattle.model.specs.Words.{Descriptor, descriptor-in, Pointer}
 use Rattle.model.specs.Registers.{Registers, Machine, machine}
 use Rattle.model.specs.Questions.{all}

@@ -5,6 +5,7 @@ pub mod WordLaws
 pub mod QuestionLaws
 pub mod TableLaws
 pub mod ProgramLaws
+pub mod ReachLaws
 pub mod LeavesLaws
 pub mod FitLaws
 pub mod SoundLaws
@@ -13,4 +14,5 @@ pub mod EndsLaws
 pub mod CountLaws
 pub mod ImageLaws
 pub mod ListingLaws
+pub mod Computing
 pub mod CasesHold

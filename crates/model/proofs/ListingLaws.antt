@@ -1,19 +1,18 @@
 -- A listing is its lines one after another. Assumes nothing.
-use mathlib.Core.Path.{_≡_, refl, sym, _∙_, ap, ap₂, subst}
+use mathlib.Core.Path.{_≡_, refl, sym, _∙_, ap, ap₂}
 use mathlib.Core.List.{List, [], _∷_, _++_, append-assoc}
-use Prim.Native.Nat.{ℕ, zero, suc, _+_, _≤_, _<_}
+use Prim.Native.Nat.{ℕ, suc, _+_}
 use native.Mathlib.Omega.{arith}
 use lib.ListN.{length}
 use Rattle.model.specs.Words.{Pointer}
 use Rattle.model.specs.Registers.{Machine}
-use Rattle.model.specs.Sound.{Sound}
 use Rattle.model.specs.Run.{Reply, spent, Ran, ran, run, after, trace-from, trace}
 use Rattle.model.specs.Answers.{numbers, reply-numbers}
 use Rattle.model.specs.Ends.{Steps, no-step, one-more, Ends, by-refusal, by-fault, by-halt, by-budget}
 use Rattle.model.specs.Listing.{step-line, step-lines, last-line, listing}
 use Rattle.model.specs.Records.{Listing-is-lines}
 use Rattle.model.proofs.RunLaws.{trace-completes, trace-goes}
-use Rattle.model.proofs.EndsLaws.{run-ends, ends-once}
+use Rattle.model.proofs.EndsLaws.{run-ends}
 use Rattle.model.proofs.CountLaws.{steps-keep-sound}
 
 pub step-lines-append : (c : ℕ) (ps qs : List Pointer) → step-lines c (ps ++ qs) ≡ step-lines c ps ++ step-lines (c + length ps) qs

@@ -1,13 +1,13 @@
 -- What a list of questions that has a yes to all says of each question. Assumes nothing.
 use mathlib.Core.Path.{_≡_, refl, subst}
-use mathlib.Core.Bool.{Bool, true, false, _&&_, _||_, cond}
+use mathlib.Core.Bool.{Bool, true, false, _&&_}
 use Prim.Native.Nat.{ℕ, zero, suc, _+_, _≤_, _<_}
 use native.Mathlib.Omega.{arith}
-use lib.Dec.{ltb, leb, eqb}
+use lib.Dec.{leb}
 use borrow.Author.Tests.{ltb-true, leb-true, eqb-true}
 use Rattle.model.specs.Words.{Descriptor, Pointer}
 use Rattle.model.specs.Registers.{Dbr}
-use Rattle.model.specs.Questions.{ask, then-ask, segment-questions, use-questions, may-execute, may-read, may-write, fetch-questions, read-questions, write-questions, return-questions, transfer-questions, new-ring, call-questions}
+use Rattle.model.specs.Questions.{ask, then-ask, segment-questions, use-questions, may-execute, may-read, may-write, fetch-questions, read-questions, write-questions, transfer-questions, new-ring, call-questions}
 use Rattle.model.proofs.BranchLaws.{and-left, and-right}
 
 pub ask-yes : (b : Bool) (n x : ℕ) → ask b (suc n) x ≡ 0 → (b ≡ true) × (x ≡ 0)

@@ -1,27 +1,26 @@
 -- A completed step leaves registers and memory that pass 1 to 4 again, in 64-bit words: a line an opcode, a line an access. Assumes nothing.
-use mathlib.Core.Path.{_≡_, refl, sym, _∙_, subst}
-use mathlib.Core.Bool.{Bool, true, false, _&&_, _||_, not, cond}
-use mathlib.Core.List.{List, [], _∷_}
-use mathlib.Core.Logic.{_⊎_, inl, inr}
+use mathlib.Core.Path.{_≡_, refl, sym, subst}
+use mathlib.Core.Bool.{Bool, true, _||_, not}
+use mathlib.Core.Logic.{inl, inr}
 use mathlib.Core.Option.{Option, none, some}
-use Prim.Native.Nat.{ℕ, zero, suc, _+_, _*_, _-_, _%_, _^_, _≤_, _<_, min, max}
+use Prim.Native.Nat.{ℕ, zero, suc, _+_, _*_, _-_, _≤_, _<_}
 use native.Mathlib.Omega.{arith}
-use lib.Dec.{ltb, leb, eqb}
+use lib.Dec.{eqb}
 use lib.ListN.{length}
-use borrow.Author.Tests.{ltb-true, lt-ltb, leb-true, le-leb}
-use Rattle.model.specs.Words.{Descriptor, Pointer, pointer-in, indirect-in, pointer-word, Instruction, instruction-in}
-use Rattle.model.specs.Registers.{Registers, Machine, pr, dbr-in, moved-by, with-ring-at-least, advanced, with-ipr}
-use Rattle.model.specs.Opcodes.{Access, sets, reads, writes, updates, transfers, calls, returns, loads-dbr, ends-run, Opcode, sum, difference, bitwise, count-of-ones, opcodes, decoded, LDA, STA, ADA, SBA, ANA, ORA, XRA, CNT, AOS, LDI, EAP, SPP, TRA, TZE, TMI, CALL, RETURN, LDBR, HLT}
+use borrow.Author.Tests.{lt-ltb, leb-true, le-leb}
+use Rattle.model.specs.Words.{Descriptor, Pointer, pointer-in, pointer-word, Instruction, instruction-in}
+use Rattle.model.specs.Registers.{Registers, Machine, pr, dbr-in, moved-by, with-ring-at-least, with-ipr}
+use Rattle.model.specs.Opcodes.{Access, sets, reads, writes, updates, transfers, calls, returns, loads-dbr, ends-run, Opcode, sum, difference, bitwise, count-of-ones, LDA, STA, ADA, SBA, ANA, ORA, XRA, CNT, AOS, LDI, EAP, SPP, TRA, TZE, TMI, CALL, RETURN, LDBR, HLT}
 use Rattle.model.specs.Questions.{memory-fits, pointer-in-range, registers-in-range, rings-at-least, dbr-fits, start-questions, ask, new-ring, all}
-use Rattle.model.specs.Program.{Program, Outcome, completes, halts}
+use Rattle.model.specs.Program.{Program, completes, halts}
 use Rattle.model.specs.Step.{first-address, next-address, chain, with-operand, stack-base, called, perform, obey, step-program, step}
 use Rattle.model.specs.Sound.{is-word, Sound, Kept, Step-keeps-sound}
-use Rattle.model.proofs.BranchLaws.{cond-holds, and-left, and-right, and-both}
+use Rattle.model.proofs.BranchLaws.{cond-holds, and-left, and-right}
 use Rattle.model.proofs.WordLaws.{field-within-width, Within, in-range-within, within-in-range, pointer-in-within, pointer-word-within, bitwise-within, ones-at-most}
 use Rattle.model.proofs.QuestionLaws.{ask-yes, transfer-keeps-ring, call-ring-at-most}
 use Rattle.model.proofs.TableLaws.{Each, If-there, decoded-has}
-use Rattle.model.proofs.LeavesLaws.{Leaves, Left, Outcome-left, nothing-left, completed-left, halted-left, leaves-law}
-use Rattle.model.proofs.FitLaws.{Pointers-fit, Dbr-fit, Fit, Formed, moved-within, raised-within, pr-within, fit-with-a, fit-with-dbr, fit-with-ipr, fit-advanced, fit-called, fit-with-pr, fit-returned}
+use Rattle.model.proofs.LeavesLaws.{Leaves, Left, Outcome-left, completed-left, halted-left, leaves-law}
+use Rattle.model.proofs.FitLaws.{Dbr-fit, Fit, Formed, moved-within, raised-within, pr-within, fit-with-a, fit-with-dbr, fit-with-ipr, fit-advanced, fit-called, fit-with-pr, fit-returned}
 
 -- THE TABLE: what an access makes of registers and words that fit fits again
 unfoldable pub Keeps-fit : Access → Type 0

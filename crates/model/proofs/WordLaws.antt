@@ -1,12 +1,12 @@
 -- Fields stay within their widths, a pointer word reads back as it was written, and A's operations stay within a word. Assumes nothing.
-use mathlib.Core.Path.{_≡_, refl, sym, _∙_, ap, ap₂, subst}
-use mathlib.Core.Bool.{Bool, true, false, _&&_}
-use Prim.Native.Nat.{ℕ, zero, suc, _+_, _*_, _-_, _/_, _%_, _^_, _≤_, _<_}
+use mathlib.Core.Path.{_≡_}
+use mathlib.Core.Bool.{true, false, _&&_}
+use Prim.Native.Nat.{ℕ, zero, suc, _+_, _*_, _/_, _%_, _^_, _≤_, _<_}
 use native.Mathlib.Nat.{mod-lt, pow-succ', one-le-pow}
 use native.Mathlib.Omega.{arith}
-use lib.Dec.{leb, eqb}
-use borrow.Author.Tests.{leb-true, le-leb, eqb-true, ne-eqb}
-use Rattle.model.specs.Words.{field, on, Descriptor, descriptor-in, Pointer, pointer-in, indirect-in, pointer-word, Instruction, instruction-in}
+use lib.Dec.{leb}
+use borrow.Author.Tests.{leb-true, le-leb, ne-eqb}
+use Rattle.model.specs.Words.{field, on, Pointer, pointer-in, indirect-in, pointer-word}
 use Rattle.model.specs.Opcodes.{bitwise, count-of-ones}
 use Rattle.model.specs.Questions.{pointer-in-range}
 use Rattle.model.proofs.BranchLaws.{and-left, and-right, and-both}

@@ -1,8 +1,7 @@
 -- 01, 'Where each language form belongs': the number and values of each case of an answer that code gives as an enum. Assumes nothing: these are definitions.
 use Prim.Native.Nat.{ℕ}
 use Rattle.model.specs.Words.{Pointer}
-use Rattle.model.specs.Registers.{Machine, zero-pointer}
-use Rattle.model.specs.Program.{Outcome, faults, completes, halts}
+use Rattle.model.specs.Registers.{zero-pointer}
 use Rattle.model.specs.Run.{Reply, StepReply}
 
 -- an answer as numbers; what 01 leaves free is 0, the pointer's ring, segment and word as well

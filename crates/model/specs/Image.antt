@@ -7,7 +7,7 @@ use Prim.Native.Char.{Char, code}
 use lib.Dec.{ltb, leb, eqb}
 use lib.ListN.{length, getD, set, take, drop, replicate}
 use Rattle.model.specs.Words.{Pointer}
-use Rattle.model.specs.Registers.{Dbr, Registers, Machine, machine, zero-pointer}
+use Rattle.model.specs.Registers.{Registers, Machine, machine, zero-pointer}
 use Rattle.model.specs.Questions.{ask, yes-to-all, start-questions}
 use Rattle.model.specs.Run.{unless-refused}
 

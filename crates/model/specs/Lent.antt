@@ -4,7 +4,7 @@ use Prim.Native.Nat.{ℕ, zero, suc, _+_}
 use lib.Dec.{eqb}
 use lib.ListN.{length, getD}
 use Rattle.model.specs.Words.{Pointer}
-use Rattle.model.specs.Registers.{Registers, Machine, machine}
+use Rattle.model.specs.Registers.{Registers, machine}
 use Rattle.model.specs.Questions.{ask, yes-to-all, memory-fits}
 use Rattle.model.specs.Run.{Reply, refused, Ran, unless-refused, run}
 

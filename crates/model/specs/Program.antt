@@ -1,5 +1,4 @@
 -- A step as a program of questions: each use of memory is 11 to 15, the questions of that use, and one access. Assumes nothing: these are definitions.
-use mathlib.Core.List.{List}
 use Prim.Native.Nat.{ℕ, zero, suc, _+_}
 use lib.ListN.{length, getD, set}
 use Rattle.model.specs.Words.{Descriptor, descriptor-in, Pointer}

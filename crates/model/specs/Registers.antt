@@ -1,5 +1,5 @@
 -- 01, 'Words and registers': the registers, the machine, and registers with one of them changed. Assumes nothing: these are definitions.
-use mathlib.Core.List.{List, [], _∷_, map}
+use mathlib.Core.List.{List}
 use Prim.Native.Nat.{ℕ, _+_, _%_, _^_, max}
 use lib.ListN.{getD, set}
 use Rattle.model.specs.Words.{field, Pointer}

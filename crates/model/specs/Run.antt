@@ -1,5 +1,5 @@
 -- 01, 'The questions, in order': runs under a budget, their replies, what stands after each step, and the stretch. Assumes nothing: these are definitions.
-use mathlib.Core.Bool.{Bool, cond}
+use mathlib.Core.Bool.{cond}
 use mathlib.Core.List.{List, [], _∷_}
 use Prim.Native.Nat.{ℕ, zero, suc}
 use lib.Dec.{ltb}

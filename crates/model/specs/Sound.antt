@@ -1,9 +1,8 @@
 -- Statements on a step: what a completed step leaves passes 1 to 4 again, in 64-bit words. Assumes nothing: these are definitions.
 use mathlib.Core.Path.{_≡_}
 use mathlib.Core.Bool.{Bool, true}
-use mathlib.Core.List.{List}
 use mathlib.Core.Logic.{_⊎_}
-use Prim.Native.Nat.{ℕ, _^_, _<_}
+use Prim.Native.Nat.{ℕ, _^_}
 use lib.Dec.{ltb}
 use lib.ListN.{length}
 use Rattle.model.specs.Registers.{Machine}

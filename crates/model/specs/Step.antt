@@ -1,6 +1,6 @@
 -- 01, 'One step': fetch, the effective address, and what each opcode does. Assumes nothing: these are definitions.
 use mathlib.Core.Bool.{Bool, _||_, not, cond}
-use mathlib.Core.List.{List, map}
+use mathlib.Core.List.{map}
 use mathlib.Core.Option.{Option, none, some}
 use Prim.Native.Nat.{ℕ, zero, suc, max}
 use lib.Dec.{eqb}
