@@ -1,0 +1,1 @@
+// Secrecy holds a statement (specs/) and its proof (proofs/), and no code.
