@@ -8,19 +8,18 @@ use Rattle.model.specs.Registers.{Machine}
 use Rattle.model.specs.Questions.{start-questions}
 use Rattle.model.specs.Program.{Outcome, faults, completes, halts}
 use Rattle.model.specs.Step.{step}
-use Rattle.model.specs.Sound.{Sound}
 use Rattle.model.specs.Run.{Reply, spent, halted, fault, Ran, ran, unless-refused, run-on, run-from, run, after, stepped, stepped-to, single-step, trace-from, trace}
 use Rattle.model.specs.Answers.{numbers, reply-numbers, step-numbers}
 use Rattle.model.specs.Ends.{Steps, no-step, one-more, Ends, by-refusal, by-fault, by-halt, by-budget, Run-counts, Fault-leaves, counted-from, Run-continues, Run-stays, Single-step-runs}
 use Rattle.model.proofs.ProgramLaws.{Size-kept, execute-keeps-size}
-use Rattle.model.proofs.SoundLaws.{step-keeps-sound}
+use Rattle.model.proofs.SoundLaws.{step-keeps-passing}
 use Rattle.model.proofs.RunLaws.{Next, next-faults, next-halts, next-completes, next, run-faults, run-halts, run-completes, trace-faults, trace-halts, trace-completes, run-refused, run-goes, trace-refused, trace-goes, along-run}
 use Rattle.model.proofs.EndsLaws.{steps-run, run-ends, ends-once}
 
--- n steps of a sound machine leave a sound one
-pub steps-keep-sound : {n : ℕ} {m k : Machine} → Steps n m k → Sound m → Sound k
-steps-keep-sound no-step s = s
-steps-keep-sound (one-more {m = m} {l = l} e t) s = steps-keep-sound t (step-keeps-sound m l s (inl e) .sound)
+-- after any number of steps 1 to 4 pass again
+pub steps-keep-passing : {n : ℕ} {m k : Machine} → Steps n m k → start-questions m ≡ 0 → start-questions k ≡ 0
+steps-keep-passing no-step q = q
+steps-keep-passing (one-more {m = m} {l = l} e s) q = steps-keep-passing s (step-keeps-passing m l q (inl e))
 
 -- counting from j more is only that
 pub run-from-shifts : (j b c : ℕ) (m : Machine) → run-from b (j + c) m ≡ ran (counted-from j (run-from b c m .reply)) (run-from b c m .machine)
@@ -90,7 +89,7 @@ fault-leaves b n c t m e = by-ends (run-ends b m) e
 -- ON FROM A SPENT BUDGET
 pub run-continues : Run-continues
 unfolding after ran kind-of reply-numbers numbers
-run-continues j k m sound e = by-ends (run-ends j m) e refl
+run-continues j k m e = by-ends (run-ends j m) e refl
   where
     by-ends : {x : Ran} → Ends j m x → x .reply ≡ spent j → x ≡ run j m →
         run (j + k) m ≡ ran (counted-from j (run k (run j m .machine) .reply)) (run k (run j m .machine) .machine)
@@ -99,7 +98,7 @@ run-continues j k m sound e = by-ends (run-ends j m) e refl
     by-ends (by-halt q s h g) f same = absurd (let z = ap kind-of f in omega arith)
     by-ends (by-budget {k = l} q s) f same =
         run-goes (j + k) m q ∙ steps-run s k 0 ∙ ap (λ c. run-from k c l) (omega arith) ∙ run-from-shifts j k 0 l
-        ∙ ap (λ x. ran (counted-from j (x .reply)) (x .machine)) (sym (run-goes k l (steps-keep-sound s sound .passes)))
+        ∙ ap (λ x. ran (counted-from j (x .reply)) (x .machine)) (sym (run-goes k l (steps-keep-passing s q)))
         ∙ ap (λ (x : Ran). ran (counted-from j (run k (x .machine) .reply)) (run k (x .machine) .machine)) same
 
 pub run-stays : Run-stays

@@ -11,7 +11,6 @@ use Rattle.model.specs.Words.{Pointer}
 use Rattle.model.specs.Registers.{Dbr, Registers, zero-pointer, pr, with-a, with-dbr, with-ipr, with-prs, with-pr, moved-by, with-ring-at-least, advanced}
 use Rattle.model.specs.Questions.{all, pointer-in-range, rings-at-least, dbr-fits}
 use Rattle.model.specs.Step.{returned}
-use Rattle.model.specs.Sound.{is-word}
 use Rattle.model.proofs.ListLaws.{all-set, all-get, all-map, all-from}
 use Rattle.model.proofs.WordLaws.{Within, in-range-within, within-in-range}
 
@@ -25,9 +24,9 @@ pub record Dbr-fit (size : ℕ) (d : Dbr) : Type 0 where
   pub address-within : d .address ≤ 16777215
   pub fits : dbr-fits size d ≡ true
 
--- for a memory of that size, with that many PRs
-pub record Fit (size count : ℕ) (r : Registers) : Type 0 where
-  pub a-is-word : is-word (r .a) ≡ true
+-- for a memory of that size, with that many PRs and what W says of A
+pub record Fit (W : ℕ → Type 0) (size count : ℕ) (r : Registers) : Type 0 where
+  pub a-has : W (r .a)
   pub dbr-fit : Dbr-fit size (r .dbr)
   pub pointers-fit : Pointers-fit count (r .ipr) (r .prs)
 
@@ -47,31 +46,31 @@ raised-within n p g h =
     let x = h .ring-within in record { ring-within = omega arith; segment-within = h .segment-within; word-within = h .word-within }
 
 -- REGISTERS
-module _ {n c : ℕ} {r : Registers} (h : Fit n c r) where
+module _ {W : ℕ → Type 0} {n c : ℕ} {r : Registers} (h : Fit W n c r) where
   pub pr-within : (k : ℕ) → Within (pr r k)
   unfolding pr pointer-in-range
   pr-within k = in-range-within _ (all-get pointer-in-range (r .prs) k zero-pointer (h .pointers-fit .prs-in-range) refl)
 
-  pub fit-with-a : (v : ℕ) → is-word v ≡ true → Fit n c (with-a v r)
+  pub fit-with-a : (v : ℕ) → W v → Fit W n c (with-a v r)
   unfolding with-a
-  fit-with-a v e = record { a-is-word = e; dbr-fit = h .dbr-fit; pointers-fit = h .pointers-fit }
+  fit-with-a v e = record { a-has = e; dbr-fit = h .dbr-fit; pointers-fit = h .pointers-fit }
 
-  pub fit-with-dbr : (d : Dbr) → Dbr-fit n d → Fit n c (with-dbr d r)
+  pub fit-with-dbr : (d : Dbr) → Dbr-fit n d → Fit W n c (with-dbr d r)
   unfolding with-dbr
-  fit-with-dbr d e = record { a-is-word = h .a-is-word; dbr-fit = e; pointers-fit = h .pointers-fit }
+  fit-with-dbr d e = record { a-has = h .a-has; dbr-fit = e; pointers-fit = h .pointers-fit }
 
   -- control moves to t
-  pub fit-with-ipr : (t : Pointer) → Within t → rings-at-least (t .ring) (r .prs) ≡ true → Fit n c (with-ipr t r)
+  pub fit-with-ipr : (t : Pointer) → Within t → rings-at-least (t .ring) (r .prs) ≡ true → Fit W n c (with-ipr t r)
   unfolding with-ipr
   fit-with-ipr t g e =
       let p = h .pointers-fit in
       record {
-        a-is-word = h .a-is-word;
+        a-has = h .a-has;
         dbr-fit = h .dbr-fit;
         pointers-fit = record { ipr-within = g; prs-in-range = p .prs-in-range; rings-kept = e; prs-count = p .prs-count };
       }
 
-  pub fit-advanced : Fit n c (advanced r)
+  pub fit-advanced : Fit W n c (advanced r)
   unfolding advanced moved-by
   fit-advanced = fit-with-ipr (moved-by 1 (r .ipr)) (moved-within 1 (r .ipr) (h .pointers-fit .ipr-within)) (h .pointers-fit .rings-kept)
 
@@ -82,12 +81,12 @@ module _ {n c : ℕ} {r : Registers} (h : Fit n c r) where
       (λ p e. let x = leb-true (r .ipr .ring) (p .ring) e in omega (arith, le-leb)) (r .prs) (h .pointers-fit .rings-kept)
 
   -- a PR becomes p, in no lower ring than q, which IPR becomes at once; IPR's ring does not rise
-  pub fit-called : (k : ℕ) (p q : Pointer) → Within p → Within q → q .ring ≤ p .ring → q .ring ≤ r .ipr .ring → Fit n c (with-ipr q (with-pr k p r))
+  pub fit-called : (k : ℕ) (p q : Pointer) → Within p → Within q → q .ring ≤ p .ring → q .ring ≤ r .ipr .ring → Fit W n c (with-ipr q (with-pr k p r))
   unfolding with-pr with-prs with-ipr rings-at-least
   fit-called k p q g f l e =
       let ps = h .pointers-fit in
       record {
-        a-is-word = h .a-is-word;
+        a-has = h .a-has;
         dbr-fit = h .dbr-fit;
         pointers-fit =
             record {
@@ -98,16 +97,16 @@ module _ {n c : ℕ} {r : Registers} (h : Fit n c r) where
             };
       }
 
-  pub fit-with-pr : (k : ℕ) (t : Pointer) → Formed r t → Fit n c (with-pr k t r)
+  pub fit-with-pr : (k : ℕ) (t : Pointer) → Formed r t → Fit W n c (with-pr k t r)
   unfolding with-pr with-prs with-ipr
   fit-with-pr k t g = fit-called k t (r .ipr) (g .within) (h .pointers-fit .ipr-within) (g .ring-at-least) (omega arith)
 
-  pub fit-returned : (t : Pointer) → Within t → Fit n c (returned t r)
+  pub fit-returned : (t : Pointer) → Within t → Fit W n c (returned t r)
   unfolding returned with-prs with-ipr rings-at-least with-ring-at-least
   fit-returned t g =
       let ps = h .pointers-fit in
       record {
-        a-is-word = h .a-is-word;
+        a-has = h .a-has;
         dbr-fit = h .dbr-fit;
         pointers-fit =
             record {

@@ -8,6 +8,7 @@ pub mod ProgramLaws
 pub mod ReachLaws
 pub mod LeavesLaws
 pub mod FitLaws
+pub mod KeepsLaws
 pub mod SoundLaws
 pub mod RunLaws
 pub mod EndsLaws

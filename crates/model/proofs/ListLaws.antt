@@ -1,4 +1,4 @@
--- A test of all elements, after a store and a map. Assumes nothing.
+-- A test of all elements, and a property of every word, after a store and a map. Assumes nothing.
 use mathlib.Core.Path.{_≡_, refl}
 use mathlib.Core.Bool.{Bool, true}
 use mathlib.Core.List.{List, [], _∷_, map}
@@ -31,3 +31,23 @@ module _ {A : Type 0} (f : A → Bool) where
   unfolding all
   all-from g k [] e = refl
   all-from g k (y ∷ ys) e = and-both (f y) (all f ys) (k y (and-left (g y) (all g ys) e)) (all-from g k ys (and-right (g y) (all g ys) e))
+
+-- a property of the word at every address; past the end it is 0
+abbrev pub Each-word : (W : ℕ → Type 0) → List ℕ → Type 0
+Each-word W m = (x : ℕ) → W (getD m x 0)
+
+pub each-word-set : (W : ℕ → Type 0) (m : List ℕ) (i v : ℕ) → Each-word W m → W v → Each-word W (set m i v)
+each-word-set W [] i v h w x = h x
+each-word-set W (y ∷ ys) zero v h w zero = w
+each-word-set W (y ∷ ys) zero v h w (suc x) = h (suc x)
+each-word-set W (y ∷ ys) (suc i) v h w zero = h zero
+each-word-set W (y ∷ ys) (suc i) v h w (suc x) = each-word-set W ys i v (λ z. h (suc z)) w x
+
+-- a test of all words, and of every address where 0 passes it
+pub all-each : (f : ℕ → Bool) (m : List ℕ) → f 0 ≡ true → all f m ≡ true → Each-word (λ w. f w ≡ true) m
+all-each f m z e x = all-get f m x 0 e z
+
+pub each-all : (f : ℕ → Bool) (m : List ℕ) → Each-word (λ w. f w ≡ true) m → all f m ≡ true
+unfolding all
+each-all f [] h = refl
+each-all f (x ∷ xs) h = and-both (f x) (all f xs) (h 0) (each-all f xs (λ z. h (suc z)))

@@ -13,7 +13,7 @@ use Rattle.model.specs.Listing.{step-line, step-lines, last-line, listin
 use Rattle.model.specs.Records.{Listing-is-lines}
 use Rattle.model.proofs.RunLaws.{trace-completes, trace-goes}
 use Rattle.model.proofs.EndsLaws.{run-ends}
-use Rattle.model.proofs.CountLaws.{steps-keep-sound}
+use Rattle.model.proofs.CountLaws.{steps-keep-passing}
 
 pub step-lines-append : (c : ℕ) (ps qs : List Pointer) → step-lines c (ps ++ qs) ≡ step-lines c ps ++ step-lines (c + length ps) qs
 unfolding step-lines
@@ -37,7 +37,7 @@ steps-trace-length {m} (one-more {n = n} {l = l} e s) = ap length (trace-complet
 
 pub listing-is-lines : Listing-is-lines
 unfolding listing after ran reply-numbers numbers
-listing-is-lines j k m sound e = by-ends (run-ends j m) e refl
+listing-is-lines j k m e = by-ends (run-ends j m) e refl
   where
     kind-of : Reply → ℕ
     kind-of p = reply-numbers p .kind
@@ -54,5 +54,5 @@ listing-is-lines j k m sound e = by-ends (run-ends j m) e refl
         ap (λ t. step-lines 0 t ++ last) (trace-goes (j + k) m q ∙ steps-trace s k)
         ∙ ap (λ t. t ++ last) (step-lines-append 0 (trace-from j m) (trace-from k l))
         ∙ ap₂ (λ z t. step-lines 0 t ++ step-lines z (trace-from k l) ++ last) (omega (arith, steps-trace-length s)) (sym (trace-goes j m q))
-        ∙ ap (λ t. step-lines 0 (trace j m) ++ step-lines j t ++ last) (sym (trace-goes k l (steps-keep-sound s sound .passes)))
+        ∙ ap (λ t. step-lines 0 (trace j m) ++ step-lines j t ++ last) (sym (trace-goes k l (steps-keep-passing s q)))
         ∙ ap (λ (x : Ran). step-lines 0 (trace j m) ++ step-lines j (trace k (x .machine)) ++ last) same

@@ -7,7 +7,6 @@ use Rattle.model.specs.Registers.{Machine}
 use Rattle.model.specs.Questions.{start-questions}
 use Rattle.model.specs.Program.{faults, completes, halts}
 use Rattle.model.specs.Step.{step}
-use Rattle.model.specs.Sound.{Sound}
 use Rattle.model.specs.Run.{Reply, refused, spent, halted, fault, Ran, ran, run, after, single-step, trace}
 use Rattle.model.specs.Answers.{reply-numbers, step-numbers}
 
@@ -54,7 +53,7 @@ counted-from j (fault n c t) = fault n (j + c) t
 -- a run of j + k steps is one of j and then, where that one spent its budget, one of k from what it left
 abbrev pub Run-continues : Type 0
 Run-continues =
-    (j k : ℕ) (m : Machine) → Sound m → run j m .reply ≡ spent j → let y = run k (after j m) in run (j + k) m ≡ ran (counted-from j (y .reply)) (y .machine)
+    (j k : ℕ) (m : Machine) → run j m .reply ≡ spent j → let y = run k (after j m) in run (j + k) m ≡ ran (counted-from j (y .reply)) (y .machine)
 
 -- and where it ended otherwise, a larger budget changes nothing
 abbrev pub Run-stays : Type 0

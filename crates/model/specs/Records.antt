@@ -6,7 +6,6 @@ use Prim.Native.Nat.{ℕ, _+_}
 use lib.ListN.{length}
 use Rattle.model.specs.Registers.{Machine}
 use Rattle.model.specs.Image.{Mark, mark-of, record-size, Loading, refused-image, whole-record-on, image-after}
-use Rattle.model.specs.Sound.{Sound}
 use Rattle.model.specs.Run.{spent, run, after, trace}
 use Rattle.model.specs.Listing.{step-lines, last-line, listing}
 
@@ -23,5 +22,5 @@ Image-needs-rn = (l : Loading) → image-after l [] ≡ refused-image 42
 -- a listing is its lines one after another: those of j steps, those of the steps from what they left, numbered on, and the last line
 abbrev pub Listing-is-lines : Type 0
 Listing-is-lines =
-    (j k : ℕ) (m : Machine) → Sound m → run j m .reply ≡ spent j →
+    (j k : ℕ) (m : Machine) → run j m .reply ≡ spent j →
     listing (j + k) m ≡ step-lines 0 (trace j m) ++ step-lines j (trace k (after j m)) ++ last-line (run (j + k) m .reply)

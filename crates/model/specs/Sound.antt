@@ -27,3 +27,7 @@ pub record Kept (m k : Machine) : Type 0 where
 
 abbrev pub Step-keeps-sound : Type 0
 Step-keeps-sound = (m k : Machine) → Sound m → (step m ≡ completes k) ⊎ (step m ≡ halts k) → Kept m k
+
+-- 1 to 4 alone pass again whatever the words are
+abbrev pub Step-keeps-passing : Type 0
+Step-keeps-passing = (m k : Machine) → start-questions m ≡ 0 → (step m ≡ completes k) ⊎ (step m ≡ halts k) → start-questions k ≡ 0
