@@ -1,0 +1,21 @@
+-- Laws of tests, lists, images and traces, and then the proofs of specs/Equal in its order. Assumes nothing.
+pub mod TestLaws
+pub mod ListLaws
+pub mod ImageLaws
+pub mod TraceLaws
+pub mod Start
+pub mod Uses
+pub mod Address
+pub mod Performs
+pub mod OpcodeCases
+pub mod Steps
+pub mod Halts
+pub mod Runs
+pub mod Stretches
+pub mod Reaches
+pub mod Numbers
+pub mod Images
+pub mod Listings
+pub mod Benches
+pub mod Lents
+pub mod Promises
