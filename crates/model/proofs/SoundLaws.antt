@@ -13,7 +13,7 @@ use Rattle.model.specs.Registers.{Registers, Machine, dbr-in, moved-by, 
 use Rattle.model.specs.Opcodes.{Access, sets, reads, writes, updates, transfers, calls, returns, loads-dbr, ends-run, Opcode}
 use Rattle.model.specs.Questions.{memory-fits, pointer-in-range, registers-in-range, rings-at-least, dbr-fits, start-questions, ask, new-ring, all}
 use Rattle.model.specs.Program.{Program, completes, halts}
-use Rattle.model.specs.Step.{first-address, next-address, chain, with-operand, stack-base, called, perform, obey, step-program, step}
+use Rattle.model.specs.Step.{first-address, next-address, chain, with-operand, stack-base, called, load, store, update, transfer, call, return, load-dbr, perform, obey, step-program, step}
 use Rattle.model.specs.Sound.{is-word, Step-keeps-sound, Step-keeps-passing}
 use Rattle.model.proofs.BranchLaws.{cond-holds, and-left, and-right}
 use Rattle.model.proofs.WordLaws.{field-within-width, Within, in-range-within, within-in-range, pointer-in-within}
@@ -74,7 +74,7 @@ module _ {W : ℕ → Type 0} (word : (v : ℕ) → v < 2 ^ 64 → W v) {n c : �
       fit-with-ipr h t (g .within) (subst (λ k. rings-at-least k (r .prs) ≡ true) (sym e) (h .pointers-fit .rings-kept))
 
   perform-leaves : (k : Access) → Keeps-fit W k → (w : ℕ) (t : Pointer) → Formed r t → Leaves W (Fit W n c) (perform n k (instruction-in w) r t)
-  unfolding perform Leaves Keeps-fit
+  unfolding load store update transfer call return load-dbr perform Leaves Keeps-fit
   perform-leaves (sets f) s w t g = fit-advanced (s n c w t r h g)
   perform-leaves (reads f) s w t g = λ d v b e q. fit-advanced (fit-with-a h _ (s (r .a) v e))
   perform-leaves (writes f) s w t g = (s n c (instruction-in w) r h, fit-advanced h)

@@ -39,18 +39,41 @@ called n t r = with-ipr (record { ring = n; segment = t .segment; word = t .word
 unfoldable pub returned : Pointer → Registers → Registers
 returned t r = with-ipr t (with-prs (map (with-ring-at-least (t .ring)) (r .prs)) r)
 
--- 4. PERFORM, for each access; a step that does not move control advances IPR. 34: LENGTH ≤ 4,096 and within memory?
+-- 4. PERFORM. A step that does not move control advances IPR
+unfoldable pub load : (result : (a word : ℕ) → ℕ) → Registers → Pointer → Program
+load f r t = read (read-questions t) t (λ d w. finish (advanced (with-a (f (r .a) w) r)))
+
+unfoldable pub store : (value : ℕ) → Registers → Pointer → Program
+store v r t = write (write-questions t) t v (advanced r)
+
+-- 22, then 23
+unfoldable pub update : (result : (word : ℕ) → ℕ) → Registers → Pointer → Program
+update f r t = read (read-questions t) t (λ d w. write (write-questions t) t (f w) (advanced r))
+
+-- one not taken asks nothing of the target
+unfoldable pub transfer : (taken : Bool) → Registers → Pointer → Program
+transfer taken r t = cond taken (look (transfer-questions (r .ipr) t) t (λ d. finish (with-ipr t r))) (finish (advanced r))
+
+unfoldable pub call : Registers → Pointer → Program
+call r t = look (call-questions (r .ipr) t) t (λ d. finish (called (new-ring t d) t r))
+
+unfoldable pub return : Registers → Pointer → Program
+return r t = look (return-questions t) t (λ d. finish (returned t r))
+
+-- 34, after 22: LENGTH ≤ 4,096 and within memory?
+unfoldable pub load-dbr : (size : ℕ) → Registers → Pointer → Program
+load-dbr n r t =
+    read (read-questions t) t (λ d w. cond (dbr-fits n (dbr-in w)) (finish (advanced (with-dbr (dbr-in w) r))) (fail 34 t))
+
 unfoldable pub perform : (size : ℕ) → Access → Instruction → Registers → Pointer → Program
 perform n (sets f) i r t = finish (advanced (f i t r))
-perform n (reads f) i r t = read (read-questions t) t (λ d w. finish (advanced (with-a (f (r .a) w) r)))
-perform n (writes f) i r t = write (write-questions t) t (f i r) (advanced r)
-perform n (updates f) i r t = read (read-questions t) t (λ d w. write (write-questions t) t (f w) (advanced r))
-perform n (transfers f) i r t =
-    cond (f (r .a)) (look (transfer-questions (r .ipr) t) t (λ d. finish (with-ipr t r))) (finish (advanced r))
-perform n calls i r t = look (call-questions (r .ipr) t) t (λ d. finish (called (new-ring t d) t r))
-perform n returns i r t = look (return-questions t) t (λ d. finish (returned t r))
-perform n loads-dbr i r t =
-    read (read-questions t) t (λ d w. cond (dbr-fits n (dbr-in w)) (finish (advanced (with-dbr (dbr-in w) r))) (fail 34 t))
+perform n (reads f) i r t = load f r t
+perform n (writes f) i r t = store (f i r) r t
+perform n (updates f) i r t = update f r t
+perform n (transfers f) i r t = transfer (f (r .a)) r t
+perform n calls i r t = call r t
+perform n returns i r t = return r t
+perform n loads-dbr i r t = load-dbr n r t
 perform n ends-run i r t = halt (advanced r)
 
 -- 32: opcode in the table? 33: ring 0, if privileged?

@@ -9,7 +9,7 @@ use Rattle.model.specs.Registers.{Registers, Machine, pr}
 use Rattle.model.specs.Opcodes.{Access, bitwise, count-of-ones, sum, difference, decoded, LDA, STA, ADA, SBA, ANA, ORA, XRA, CNT, AOS, EAP, SPP, TRA, TZE, TMI, CALL, RETURN, LDBR}
 use Rattle.model.specs.Questions.{ask, may-execute, fetch-questions}
 use Rattle.model.specs.Program.{Program, fail, execute, word-at, absolute-address, descriptor-of}
-use Rattle.model.specs.Step.{first-address, chain, perform, obey, step-program, step}
+use Rattle.model.specs.Step.{first-address, chain, call, return, perform, obey, step-program, step}
 use Rattle.model.proofs.TableLaws.{Each}
 use Rattle.model.proofs.Computing.{by-computation}
 use Rattle.reference.specs.Machine as Machine03
