@@ -1,4 +1,4 @@
--- Laws of tests, lists, images and traces, and then the proofs of specs/Equal in its order. Assumes nothing.
+-- Laws of tests, lists, images and traces, then the proofs of specs/Equal in its order, and of specs/Promise. Assumes nothing.
 pub mod TestLaws
 pub mod ListLaws
 pub mod ImageLaws
@@ -19,3 +19,4 @@ pub mod Listings
 pub mod Benches
 pub mod Lents
 pub mod Promises
+pub mod Rings

@@ -17,11 +17,7 @@ use Rattle.reference.specs.Run as Run03
 use Rattle.reference.specs.Promise as Promise03
 use Rattle.reference.specs.View as View
 use Rattle.reference.proofs.Start.{views-cover, start-equal}
-use Rattle.reference.proofs.Runs.{run-equal}
-
--- a run of 03, of any machine, as one of the model
-run-back : (m : Step03.Machine) (b : ℕ) → View.ran (run b (View.model-machine m)) ≡ Run03.run b m
-run-back m b = run-equal b (View.model-machine m) ∙ ap (λ (k : Step03.Machine). Run03.run b k) (views-cover m)
+use Rattle.reference.proofs.Runs.{run-back}
 
 start-back : (m : Step03.Machine) → start-questions (View.model-machine m) ≡ Machine03.start-refusal (m .regs) (m .mem)
 start-back m =

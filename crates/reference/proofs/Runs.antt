@@ -14,7 +14,7 @@ use Rattle.reference.specs.Step as Step03
 use Rattle.reference.specs.Run as Run03
 use Rattle.reference.specs.View as View
 use Rattle.reference.specs.Equal.{Run-equal}
-use Rattle.reference.proofs.Start.{start-equal}
+use Rattle.reference.proofs.Start.{views-cover, start-equal}
 use Rattle.reference.proofs.Steps.{step-equal}
 use Rattle.reference.proofs.Halts.{halt-equal}
 
@@ -51,3 +51,7 @@ unless-refused-view (suc k) b m = rw (eqb·suc-zero k) refl
 pub run-equal : Run-equal
 unfolding run Run03.run
 run-equal b m = rw (← (start-equal m)) (unless-refused-view (start-questions m) b m)
+
+-- a run of 03, of any machine, as one of the model
+pub run-back : (m : Step03.Machine) (b : ℕ) → View.ran (run b (View.model-machine m)) ≡ Run03.run b m
+run-back m b = run-equal b (View.model-machine m) ∙ ap (λ (k : Step03.Machine). Run03.run b k) (views-cover m)

@@ -1,0 +1,238 @@
+-- The table's rule, by one test over all of its entries, and the arms of a read's result. Assumes nothing.
+use mathlib.Core.Path.{_≡_, refl, sym, _∙_, ap, subst}
+use mathlib.Core.Bool.{Bool, true, _&&_, cond}
+use mathlib.Core.List.{List, [], _∷_}
+use Prim.Native.Nat.{ℕ, zero, suc, _+_, _*_, _-_, _%_, _≤_, _<_}
+use native.Mathlib.Nat.{add-zero, zero-add, add-suc, suc-add, le-of-suc-le-suc, not-suc-le-zero}
+use native.Mathlib.Omega.{arith}
+use lib.Dec.{leb, eqb}
+use lib.ListN.{length, getD}
+use borrow.Author.Tests.{eqb-true, ne-eqb}
+use Rattle.model.specs.Opcodes.{sum, difference, bitwise, count-of-ones}
+use Rattle.model.proofs.BranchLaws.{and-left, and-right}
+use Rattle.model.proofs.Computing.{by-computation}
+use Rattle.model.proofs.TableLaws.{Each, Outside, outside-not-decoded, each-number}
+use Rattle.words.specs.declared.opcodes.Kind.{Kind}
+use Rattle.words.specs.declared.opcodes.Kind.the-variants.{Unknown, Read, Write, Update, Literal, Address, Pointer, Transfer, Call, Return, Dbr, Halt}
+use Rattle.words.specs.Table.{result, taken, entry-of, Told}
+
+-- WHAT THE TABLE SHOULD SAY of each number
+unfoldable pub kind-for : (opcode : ℕ) → Kind
+kind-for n =
+    cond (eqb n 1) Read
+    (cond (eqb n 2) Write
+    (cond (eqb n 3) Read
+    (cond (eqb n 4) Read
+    (cond (eqb n 5) Read
+    (cond (eqb n 6) Read
+    (cond (eqb n 7) Read
+    (cond (eqb n 8) Read
+    (cond (eqb n 9) Update
+    (cond (eqb n 10) Literal
+    (cond (eqb n 16) Address
+    (cond (eqb n 17) Pointer
+    (cond (eqb n 24) Transfer
+    (cond (eqb n 25) Transfer
+    (cond (eqb n 26) Transfer
+    (cond (eqb n 32) Call
+    (cond (eqb n 33) Return
+    (cond (eqb n 40) Dbr
+    (cond (eqb n 41) Halt Unknown))))))))))))))))))
+
+kind-for-told : Each (λ o. Told (o .number) (kind-for (o .number)))
+unfolding Told kind-for entry-of result taken by-computation
+kind-for-told =
+    record {
+      lda = refl;
+      sta = refl;
+      ada = refl;
+      sba = refl;
+      ana = refl;
+      ora = refl;
+      xra = refl;
+      cnt = refl;
+      aos = refl;
+      ldi = refl;
+      eap = refl;
+      spp = refl;
+      tra = refl;
+      tze = refl;
+      tmi = refl;
+      call = refl;
+      return = refl;
+      ldbr = refl;
+      hlt = refl;
+    }
+
+kind-for-outside : (n : ℕ) → Outside n → kind-for n ≡ Unknown
+unfolding kind-for by-computation
+kind-for-outside n out =
+    rw (
+      ne-eqb n 1 (out .lda),
+      ne-eqb n 2 (out .sta),
+      ne-eqb n 3 (out .ada),
+      ne-eqb n 4 (out .sba),
+      ne-eqb n 5 (out .ana),
+      ne-eqb n 6 (out .ora),
+      ne-eqb n 7 (out .xra),
+      ne-eqb n 8 (out .cnt),
+      ne-eqb n 9 (out .aos),
+      ne-eqb n 10 (out .ldi),
+      ne-eqb n 16 (out .eap),
+      ne-eqb n 17 (out .spp),
+      ne-eqb n 24 (out .tra),
+      ne-eqb n 25 (out .tze),
+      ne-eqb n 26 (out .tmi),
+      ne-eqb n 32 (out .call),
+      ne-eqb n 33 (out .return),
+      ne-eqb n 40 (out .ldbr),
+      ne-eqb n 41 (out .hlt),
+    ) refl
+
+kind-for-is-told : (n : ℕ) → Told n (kind-for n)
+kind-for-is-told =
+    each-number (λ n. Told n (kind-for n)) kind-for-told
+    (λ n out. subst (Told n) (sym (kind-for-outside n out)) (unfold Told entry-of in outside-not-decoded n out))
+
+-- KINDS are told apart by a number
+unfoldable pub tag : Kind → ℕ
+tag Unknown = 0
+tag Read = 1
+tag Write = 2
+tag Update = 3
+tag Literal = 4
+tag Address = 5
+tag Pointer = 6
+tag Transfer = 7
+tag Call = 8
+tag Return = 9
+tag Dbr = 10
+tag Halt = 11
+
+unfoldable untag : ℕ → Kind
+untag n =
+    cond (eqb n 0) Unknown
+    (cond (eqb n 1) Read
+    (cond (eqb n 2) Write
+    (cond (eqb n 3) Update
+    (cond (eqb n 4) Literal
+    (cond (eqb n 5) Address
+    (cond (eqb n 6) Pointer
+    (cond (eqb n 7) Transfer
+    (cond (eqb n 8) Call
+    (cond (eqb n 9) Return
+    (cond (eqb n 10) Dbr Halt))))))))))
+
+untag-tag : (k : Kind) → untag (tag k) ≡ k
+unfolding tag untag
+untag-tag Unknown = refl
+untag-tag Read = refl
+untag-tag Write = refl
+untag-tag Update = refl
+untag-tag Literal = refl
+untag-tag Address = refl
+untag-tag Pointer = refl
+untag-tag Transfer = refl
+untag-tag Call = refl
+untag-tag Return = refl
+untag-tag Dbr = refl
+untag-tag Halt = refl
+
+same-tag : (j k : Kind) → eqb (tag j) (tag k) ≡ true → j ≡ k
+same-tag j k e = sym (untag-tag j) ∙ ap untag (eqb-true (tag j) (tag k) e) ∙ untag-tag k
+
+-- THE TEST over a table, from entry i on
+unfoldable pub right-from : (i : ℕ) → List Kind → Bool
+right-from i [] = true
+right-from i (k ∷ ks) = eqb (tag k) (tag (kind-for i)) && right-from (suc i) ks
+
+told-from : (ks : List Kind) (d : Kind) (i j : ℕ) → right-from i ks ≡ true → j < length ks → Told (i + j) (getD ks j d)
+unfolding right-from
+told-from [] d i j t h = absurd (not-suc-le-zero h)
+told-from (k ∷ ks) d i zero t h =
+    subst (λ n. Told n k) (sym (add-zero i))
+    (subst (Told i) (sym (same-tag k (kind-for i) (and-left (eqb (tag k) (tag (kind-for i))) (right-from (suc i) ks) t))) (kind-for-is-told i))
+told-from (k ∷ ks) d i (suc j) t h =
+    subst (λ n. Told n (getD ks j d)) (suc-add i j ∙ sym (add-suc i j))
+    (told-from ks d (suc i) j (and-right (eqb (tag k) (tag (kind-for i))) (right-from (suc i) ks) t) (le-of-suc-le-suc h))
+
+-- 42 entries are right, and past them no opcode is known
+pub table-law : (ks : List Kind) (d : Kind) (n : ℕ) → right-from 0 ks ≡ true → n < length ks → Told n (getD ks n d)
+table-law ks d n t h = subst (λ m. Told m (getD ks n d)) (zero-add n) (told-from ks d 0 n t h)
+
+pub past-law : (n : ℕ) → 42 ≤ n → Told n Unknown
+unfolding by-computation
+past-law n h = subst (Told n) (kind-for-outside n out) (kind-for-is-told n)
+  where
+    differs : (k : ℕ) → k < 42 → n ≡ k → ⊥
+    differs k g e = omega arith
+
+    out : Outside n
+    out =
+        record {
+          lda = differs 1 (omega arith);
+          sta = differs 2 (omega arith);
+          ada = differs 3 (omega arith);
+          sba = differs 4 (omega arith);
+          ana = differs 5 (omega arith);
+          ora = differs 6 (omega arith);
+          xra = differs 7 (omega arith);
+          cnt = differs 8 (omega arith);
+          aos = differs 9 (omega arith);
+          ldi = differs 10 (omega arith);
+          eap = differs 16 (omega arith);
+          spp = differs 17 (omega arith);
+          tra = differs 24 (omega arith);
+          tze = differs 25 (omega arith);
+          tmi = differs 26 (omega arith);
+          call = differs 32 (omega arith);
+          return = differs 33 (omega arith);
+          ldbr = differs 40 (omega arith);
+          hlt = differs 41 (omega arith);
+        }
+
+-- A READ'S RESULT, for each arm
+module _ (o a w r : ℕ) where
+  pub load-result : o ≡ 1 → w ≡ result o a w
+  unfolding result
+  load-result h = rw h
+
+  pub add-result : o ≡ 3 → r ≡ sum a w → r ≡ result o a w
+  unfolding result
+  add-result h e = e ∙ rw h
+
+  pub subtract-result : o ≡ 4 → r ≡ difference a w → r ≡ result o a w
+  unfolding result
+  subtract-result h e = e ∙ rw h
+
+  pub and-result : o ≡ 5 → r ≡ bitwise 64 (λ x y. x * y) a w → r ≡ result o a w
+  unfolding result
+  and-result h e = e ∙ rw h
+
+  pub or-result : o ≡ 6 → r ≡ bitwise 64 (λ x y. x + y - x * y) a w → r ≡ result o a w
+  unfolding result
+  or-result h e = e ∙ rw h
+
+  pub exclusive-or-result : o ≡ 7 → r ≡ bitwise 64 (λ x y. (x + y) % 2) a w → r ≡ result o a w
+  unfolding result
+  exclusive-or-result h e = e ∙ rw h
+
+  pub count-result : (o ≡ 1 → ⊥) → (o ≡ 3 → ⊥) → (o ≡ 4 → ⊥) → (o ≡ 5 → ⊥) → (o ≡ 6 → ⊥) → (o ≡ 7 → ⊥) → r ≡ count-of-ones 64 w → r ≡ result o a w
+  unfolding result
+  count-result h i j k l m e = e ∙ simp (ne-eqb o 1 h, ne-eqb o 3 i, ne-eqb o 4 j, ne-eqb o 5 k, ne-eqb o 6 l, ne-eqb o 7 m)
+
+-- A TRANSFER IS TAKEN, for each arm
+module _ (o a : ℕ) where
+  pub tra-taken : o ≡ 24 → true ≡ taken o a
+  unfolding taken
+  tra-taken h = rw h
+
+  pub tze-taken : o ≡ 25 → eqb a 0 ≡ taken o a
+  unfolding taken
+  tze-taken h = rw h
+
+  pub tmi-taken : (o ≡ 24 → ⊥) → (o ≡ 25 → ⊥) → leb 9223372036854775808 a ≡ taken o a
+  unfolding taken
+  tmi-taken h i = simp (ne-eqb o 24 h, ne-eqb o 25 i)
+
+pub ruleset results = (load-result, add-result, subtract-result, and-result, or-result, exclusive-or-result, count-result, tra-taken, tze-taken, tmi-taken)

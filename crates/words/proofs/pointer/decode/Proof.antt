@@ -1,0 +1,16 @@
+-- `pointer::decode` meets its contract. Assumes nothing.
+use native.Mathlib.Nat.{div-one}
+use borrow.Author.Needs.{needs}
+use Rattle.model.specs.Words.{pointer-in, field}
+use Rattle.words.proofs.pointer.decode.Statement.{statement}
+use Rattle.words.proofs.pointer.decode.Tie as tie
+
+cast-t8 : tie.Need-cast-t8
+cast-t8 c = search needs
+
+returns : tie.Need-returns
+unfolding pointer-in field
+returns c = simp div-one
+
+pub decode-spec : {M : Type 1} → statement M
+decode-spec = tie.close (tie.spec cast-t8 returns)

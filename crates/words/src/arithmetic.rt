@@ -1,0 +1,41 @@
+// A's operations, modulo 2^64 and bit by bit.
+ghost use mathlib.Core.Path.{_≡_};
+ghost use Prim.Native.Nat.{_*_, _+_, _-_, _%_};
+ghost use Rattle.model.specs.Opcodes.{sum, difference, bitwise, count-of-ones};
+
+pub fn add(a: u64, w: u64) -> u64
+    ensures { λ r. ⌜ r ≡ sum a w ⌝ }
+{
+    std::num::wrapping_add_u64(a, w)
+}
+
+pub fn subtract(a: u64, w: u64) -> u64
+    ensures { λ r. ⌜ r ≡ difference a w ⌝ }
+{
+    std::num::wrapping_sub_u64(a, w)
+}
+
+pub fn and(a: u64, w: u64) -> u64
+    ensures { λ r. ⌜ r ≡ bitwise 64 (λ x y. x * y) a w ⌝ }
+{
+    a & w
+}
+
+pub fn or(a: u64, w: u64) -> u64
+    ensures { λ r. ⌜ r ≡ bitwise 64 (λ x y. x + y - x * y) a w ⌝ }
+{
+    a | w
+}
+
+pub fn exclusive_or(a: u64, w: u64) -> u64
+    ensures { λ r. ⌜ r ≡ bitwise 64 (λ x y. (x + y) % 2) a w ⌝ }
+{
+    a ^ w
+}
+
+// CNT: the language's count of ones is the sum of the bits.
+pub fn count_ones(w: u64) -> u64
+    ensures { λ r. ⌜ r ≡ count-of-ones 64 w ⌝ }
+{
+    u64::count_ones(w) as u64
+}
