@@ -1,5 +1,6 @@
 -- The code's pointers and descriptors as the model's. Assumes nothing: these are definitions.
-use Prim.Native.Nat.{_≤_}
+use mathlib.Core.Path.{_≡_}
+use Prim.Native.Nat.{ℕ, _≤_, _<_}
 use Rattle.model.specs.Words as Words
 use Rattle.words.specs.declared.pointer.Pointer.{Pointer}
 use Rattle.words.specs.declared.descriptor.Descriptor.{Descriptor}
@@ -26,3 +27,13 @@ as-descriptor d =
 pub record Pointer-within (p : Pointer) : Type 0 where
   pub ring-within : p .ring ≤ 7
   pub segment-within : p .segment .0 ≤ 4095
+
+-- what decoding a word gives: the definition's value, and the bounds that callers need
+pub record Decoded-pointer (w : ℕ) (p : Pointer) : Type 0 where
+  pub same : as-pointer p ≡ Words.pointer-in w
+  pub within : Pointer-within p
+
+pub record Decoded-descriptor (w : ℕ) (d : Descriptor) : Type 0 where
+  pub same : as-descriptor d ≡ Words.descriptor-in w
+  pub address-within : d .address < 16777216
+  pub r1-within : d .r1 ≤ 7

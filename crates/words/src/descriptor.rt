@@ -1,9 +1,7 @@
 // Descriptors, and the absolute addresses that translation through one makes.
 ghost use mathlib.Core.Path.{_≡_};
-ghost use mathlib.Core.Bool.{_&&_};
 ghost use Prim.Native.Nat.{_+_, _<_};
-ghost use Rattle.model.specs.Words.{descriptor-in};
-ghost use Rattle.words.specs.View.{as-descriptor};
+ghost use Rattle.words.specs.View.{Decoded-descriptor};
 use crate::pointer::WordNumber;
 
 pub struct Descriptor {
@@ -23,7 +21,7 @@ pub struct Descriptor {
 pub struct AbsoluteAddress(u64);
 
 pub fn decode(w: u64) -> Descriptor
-    ensures { λ d. ⌜ as-descriptor d ≡ descriptor-in w ⌝ }
+    ensures { λ d. ⌜ Decoded-descriptor w d ⌝ }
 {
     Descriptor {
         address: w % 16777216,

@@ -1,8 +1,8 @@
 // Pointers, and the pointer word that holds one.
 ghost use mathlib.Core.Path.{_≡_};
 ghost use Prim.Native.Nat.{_≤_};
-ghost use Rattle.model.specs.Words.{pointer-in, indirect-in, pointer-word};
-ghost use Rattle.words.specs.View.{as-pointer, Pointer-within};
+ghost use Rattle.model.specs.Words.{indirect-in, pointer-word};
+ghost use Rattle.words.specs.View.{as-pointer, Pointer-within, Decoded-pointer};
 
 pub struct SegmentNumber(pub u64);
 
@@ -17,7 +17,7 @@ pub struct Pointer {
 
 // The pointer in a pointer word; bits 31 to 63 are ignored.
 pub fn decode(w: u64) -> Pointer
-    ensures { λ p. ⌜ as-pointer p ≡ pointer-in w ⌝ }
+    ensures { λ p. ⌜ Decoded-pointer w p ⌝ }
 {
     Pointer {
         ring: (w >> 28) % 8,

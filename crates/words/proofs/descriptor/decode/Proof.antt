@@ -13,7 +13,7 @@ cast-t26 c = search needs
 
 returns : tie.Need-returns
 unfolding descriptor-in field on
-returns c = simp div-one
+returns c = record { same = simp div-one; address-within = search needs; r1-within = search needs }
 
 pub decode-spec : {M : Type 1} → statement M
 decode-spec = tie.close (tie.spec cast-t5 cast-t26 returns)

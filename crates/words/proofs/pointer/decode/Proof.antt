@@ -10,7 +10,7 @@ cast-t8 c = search needs
 
 returns : tie.Need-returns
 unfolding pointer-in field
-returns c = simp div-one
+returns c = record { same = simp div-one; within = search needs }
 
 pub decode-spec : {M : Type 1} → statement M
 decode-spec = tie.close (tie.spec cast-t8 returns)
