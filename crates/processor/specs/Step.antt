@@ -1,0 +1,57 @@
+-- What fetching answers, and a fetched instruction of a kind as a program. Assumes nothing: these are definitions.
+use mathlib.Core.Path.{_≡_}
+use mathlib.Core.Bool.{_&&_, not}
+use mathlib.Core.List.{List}
+use Prim.Native.Nat.{ℕ, _≤_}
+use lib.Dec.{eqb}
+use lib.ListN.{length}
+use mathlib.Core.Option.{Option, none, some}
+use Rattle.model.specs.Words as Words
+use Rattle.model.specs.Words.{instruction-in}
+use Rattle.model.specs.Registers as Registers
+use Rattle.model.specs.Opcodes.{Opcode}
+use Rattle.model.specs.Questions.{ask, call-questions, new-ring, then-ask}
+use Rattle.model.specs.Program.{Program, fail, execute, faults}
+use Rattle.model.specs.Step.{with-operand, perform, step}
+use Rattle.words.specs.Table.{known, privileged, entry-of}
+use Rattle.words.specs.declared.opcodes.Kind.{Kind}
+use Rattle.processor.specs.View.{as-machine}
+use Rattle.processor.specs.Translation.{descriptor-at, use-at}
+use Rattle.processor.specs.declared.state.Core.{Core}
+use Rattle.processor.specs.declared.step.Fetched.{Fetched}
+use Rattle.processor.specs.declared.step.Fetched.the-variants as Fetched
+use Rattle.processor.specs.declared.control.Checked.{Checked}
+use Rattle.processor.specs.declared.control.Checked.the-variants as Checked
+
+-- CALL'S CHECK: 11 to 15, 26 to 30, and the new ring
+unfoldable pub call-answer : Registers.Dbr → (memory : List ℕ) → (ipr t : Words.Pointer) → ℕ
+call-answer b m ipr t = then-ask (use-at b m t) (call-questions ipr t (descriptor-at b m (t .segment)))
+
+abbrev pub checked : Registers.Dbr → (memory : List ℕ) → (ipr t : Words.Pointer) → Checked → Type 0
+checked b m ipr t (Checked.Refused n) = (call-answer b m ipr t ≡ n) × (1 ≤ n)
+checked b m ipr t (Checked.Ring n) = (call-answer b m ipr t ≡ 0) × (n ≡ new-ring t (descriptor-at b m (t .segment)))
+
+-- 32 AND 33 by an opcode's kind
+unfoldable pub opcode-answer : Kind → (ring : ℕ) → ℕ
+opcode-answer k n = ask (known k) 32 (ask (not (privileged k && not (eqb n 0))) 33 0)
+
+-- once 32 and 33 have a yes; an opcode that is in no table has none
+unfoldable pub performed : (size : ℕ) → Option Opcode → Words.Instruction → Registers.Registers → Words.Pointer → Program
+performed n none i r t = fail 32 t
+performed n (some o) i r t = perform n (o .access) i r t
+
+unfoldable pub obeyed : (size : ℕ) → Option Opcode → Words.Instruction → Registers.Registers → Program
+obeyed n none i r = fail 32 (r .ipr)
+obeyed n (some o) i r = with-operand o i r (perform n (o .access) i r)
+
+-- the entry that a kind says of an instruction word
+unfoldable pub entry-in : (word : ℕ) → Kind → Option Opcode
+entry-in w k = entry-of (instruction-in w .opcode) k
+
+abbrev pub fetched : Registers.Machine → Fetched → Type 0
+fetched m (Fetched.Refused n) = step m ≡ faults n (m .registers .ipr)
+fetched m (Fetched.Word w k) = step m ≡ execute m (obeyed (length (m .memory)) (entry-in w k) (instruction-in w) (m .registers))
+
+-- whatever the PRs are
+abbrev pub fetched-with-any-prs : Core → (memory : List ℕ) → Fetched → Type 0
+fetched-with-any-prs c m x = (prs : List ℕ) → fetched (as-machine c prs m) x

@@ -1,0 +1,129 @@
+// One step: fetch, operand, perform. Each is called at one place, so that the compiler merges all into the loop of a run.
+ghost use mathlib.Core.Path.{_≡_};
+ghost use lib.ListN.{length};
+ghost use Rattle.model.specs.Words.{instruction-in};
+ghost use Rattle.model.specs.Step as Step;
+ghost use Rattle.words.specs.View.{as-pointer, Pointer-within};
+ghost use Rattle.processor.specs.View.{as-registers, as-machine, Ready, does, ended};
+ghost use Rattle.processor.specs.Step.{opcode-answer, fetched-with-any-prs, performed, obeyed, entry-in};
+use crate::address::Address;
+use crate::state::After;
+use crate::state::Core;
+use crate::state::End;
+use crate::translate::Translated;
+use words::opcodes::Kind;
+use words::pointer::Pointer;
+
+// A question's number at IPR, or the instruction with its opcode's kind.
+pub enum Fetched {
+    Refused(u8),
+    Word(u64, Kind),
+}
+
+// 32: opcode in the table? 33: ring 0, if privileged? 0 is a yes to both.
+pub fn kind_answer(kind: Kind, ring: u64) -> u8
+    ensures { λ n. ⌜ n ≡ opcode-answer kind ring ⌝ }
+{
+    if !words::opcodes::is_known(kind) {
+        return 32;
+    }
+    if words::opcodes::is_privileged(kind) & (ring != 0) {
+        return 33;
+    }
+    0
+}
+
+// 11 to 15, 21, 32 and 33.
+pub fn fetch(core: Core, memory: &[u64]) -> Fetched
+    requires { ⌜ Ready core (now memory) ⌝ }
+    ensures { λ x. ⌜ fetched-with-any-prs core (now (memory .entry)) x ⌝ }
+{
+    let dbr = core.dbr;
+    let ipr = core.ipr;
+    match crate::translate::translate(dbr, memory, ipr) {
+        Translated::Refused(n) => Fetched::Refused(n),
+        Translated::Passed(d) => {
+            if !crate::segment::is_executable(d, ipr) {
+                return Fetched::Refused(21);
+            }
+            let w = crate::segment::read(memory, d, ipr.word);
+            let kind = words::opcodes::kind_of(words::instruction::opcode(w));
+            let n = kind_answer(kind, ipr.ring);
+            if n != 0 {
+                return Fetched::Refused(n);
+            }
+            Fetched::Word(w, kind)
+        }
+    }
+}
+
+// What an opcode of a kind does at TPR.
+pub fn perform(
+    core: Core,
+    prs: &mut [u64; 8],
+    memory: &mut [u64],
+    w: u64,
+    kind: Kind,
+    t: Pointer,
+) -> After
+    requires { ⌜ Ready core (now memory) × Pointer-within t ⌝ }
+    ensures { λ x. ⌜ does core (now (prs .entry)) (now (memory .entry)) (performed (length (now (memory .entry))) (entry-in w kind) (instruction-in w) (as-registers core (now (prs .entry))) (as-pointer t)) x (now (prs .exit)) (now (memory .exit)) ⌝ }
+{
+    match kind {
+        Kind::Unknown => After {
+            core,
+            end: End::Faulted(32, t),
+        },
+        Kind::Read => crate::access::load(core, memory, w, t),
+        Kind::Write => {
+            let a = core.a;
+            crate::access::store(core, memory, t, a)
+        }
+        Kind::Update => crate::access::update(core, memory, t),
+        Kind::Literal => crate::registers::load_literal(core, w),
+        Kind::Address => crate::registers::load_pointer(core, prs, w, t),
+        Kind::Pointer => {
+            let value = crate::registers::stored_pointer(prs, w);
+            crate::access::store(core, memory, t, value)
+        }
+        Kind::Transfer => crate::control::transfer(core, memory, w, t),
+        Kind::Call => crate::control::call(core, prs, memory, t),
+        Kind::Return => crate::control::return_to(core, prs, memory, t),
+        Kind::Dbr => crate::access::load_dbr(core, memory, t),
+        Kind::Halt => After {
+            core: crate::state::advanced(core),
+            end: End::Halted,
+        },
+    }
+}
+
+// A fetched instruction.
+pub fn obey(core: Core, prs: &mut [u64; 8], memory: &mut [u64], w: u64, kind: Kind) -> After
+    requires { ⌜ Ready core (now memory) ⌝ }
+    ensures { λ x. ⌜ does core (now (prs .entry)) (now (memory .entry)) (obeyed (length (now (memory .entry))) (entry-in w kind) (instruction-in w) (as-registers core (now (prs .entry)))) x (now (prs .exit)) (now (memory .exit)) ⌝ }
+{
+    match crate::address::operand(core, prs, memory, w, kind) {
+        Address::Bad(n, t) => After {
+            core,
+            end: End::Faulted(n, t),
+        },
+        Address::Good(t) => perform(core, prs, memory, w, kind, t),
+    }
+}
+
+// The step. Questions 1 to 4 were asked before the run and hold on.
+pub fn step(core: Core, prs: &mut [u64; 8], memory: &mut [u64]) -> After
+    requires { ⌜ Ready core (now memory) ⌝ }
+    ensures { λ x. ⌜ ended (as-machine core (now (prs .entry)) (now (memory .entry))) (Step.step (as-machine core (now (prs .entry)) (now (memory .entry)))) (x .end) (as-machine (x .core) (now (prs .exit)) (now (memory .exit))) ⌝ }
+{
+    match fetch(core, memory) {
+        Fetched::Refused(n) => {
+            let ipr = core.ipr;
+            After {
+                core,
+                end: End::Faulted(n, ipr),
+            }
+        }
+        Fetched::Word(w, kind) => obey(core, prs, memory, w, kind),
+    }
+}
