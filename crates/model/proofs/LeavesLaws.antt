@@ -10,7 +10,7 @@ use Rattle.model.proofs.ListLaws.{Each-word, each-word-set}
 use Rattle.model.proofs.WordLaws.{field-within-width}
 use Rattle.model.proofs.ProgramLaws.{answer-passes}
 
-descriptor-r1-within : (m : Machine) (s : ℕ) → descriptor-of m s .r1 ≤ 7
+pub descriptor-r1-within : (m : Machine) (s : ℕ) → descriptor-of m s .r1 ≤ 7
 unfolding descriptor-of descriptor-in
 descriptor-r1-within m s = let x = field-within-width 40 3 (getD (m .memory) (m .registers .dbr .address + s) 0) in omega arith
 

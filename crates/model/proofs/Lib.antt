@@ -10,6 +10,7 @@ pub mod LeavesLaws
 pub mod FitLaws
 pub mod KeepsLaws
 pub mod SoundLaws
+pub mod FaultLaws
 pub mod RunLaws
 pub mod EndsLaws
 pub mod CountLaws

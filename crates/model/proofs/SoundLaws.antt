@@ -26,7 +26,7 @@ use Rattle.model.proofs.KeepsLaws.{Keeps-fit, table-keeps-fit}
 
 -- THE ADDRESS
 module _ {W : ℕ → Type 0} (word : (v : ℕ) → v < 2 ^ 64 → W v) {n c : ℕ} {r : Registers} (h : Fit W n c r) where
-  first-address-formed : (i : Instruction) → Formed r (first-address i r)
+  pub first-address-formed : (i : Instruction) → Formed r (first-address i r)
   unfolding first-address moved-by with-ring-at-least
   first-address-formed i =
       cond-holds (λ p. Formed r (moved-by (i .offset) p)) (i .p)
@@ -36,7 +36,7 @@ module _ {W : ℕ → Type 0} (word : (v : ℕ) → v < 2 ^ 64 → W v) {n c : �
       ipr : Within (r .ipr)
       ipr = h .pointers-fit .ipr-within
 
-  next-address-formed : (t : Pointer) (d : Descriptor) (w : ℕ) → d .r1 ≤ 7 → Formed r t → Formed r (next-address t d w)
+  pub next-address-formed : (t : Pointer) (d : Descriptor) (w : ℕ) → d .r1 ≤ 7 → Formed r t → Formed r (next-address t d w)
   unfolding next-address with-ring-at-least
   next-address-formed t d w l g =
       let x = g .within .ring-within in
@@ -102,7 +102,7 @@ module _ {W : ℕ → Type 0} (word : (v : ℕ) → v < 2 ^ 64 → W v) {n c : �
 
 -- 1 TO 4
 module _ {W : ℕ → Type 0} where
-  passing-fits : (m : Machine) → start-questions m ≡ 0 → W (m .registers .a) → Fit W (length (m .memory)) (length (m .registers .prs)) (m .registers)
+  pub passing-fits : (m : Machine) → start-questions m ≡ 0 → W (m .registers .a) → Fit W (length (m .memory)) (length (m .registers .prs)) (m .registers)
   unfolding start-questions registers-in-range
   passing-fits m e a =
       let r = m .registers in

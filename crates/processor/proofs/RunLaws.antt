@@ -1,7 +1,7 @@
 -- A run: one law for each way out of the loop and for its next turn. Assumes nothing.
 use mathlib.Core.Path.{_≡_, sym, _∙_, ap}
 use mathlib.Core.Bool.{true}
-use mathlib.Core.Logic.{inl}
+use mathlib.Core.Logic.{inl, inr}
 use Prim.Native.Nat.{ℕ, suc, _+_, _-_, _≤_, _<_}
 use native.Mathlib.Omega.{arith}
 use lib.Dec.{leb}
@@ -15,6 +15,7 @@ use Rattle.model.specs.Run.{ran, run-from}
 use Rattle.model.proofs.BranchLaws.{and-left, and-right}
 use Rattle.model.proofs.WordLaws.{in-range-within}
 use Rattle.model.proofs.QuestionLaws.{ask-yes}
+use Rattle.model.proofs.FaultLaws.{fault-pointer-within}
 use Rattle.model.proofs.SoundLaws.{step-keeps-passing}
 use Rattle.model.proofs.RunLaws.{run-faults, run-halts, run-completes}
 use Rattle.words.specs.View.{as-pointer}
@@ -73,8 +74,27 @@ pub start-law : (b : ℕ) (m : Machine) → run-from (b - 0) 0 m ≡ run-from b 
 start-law b m = ap (λ k. run-from k 0 m) (let q : b - 0 ≡ b = omega arith in q)
 
 -- 1 to 4 pass again
-pub passing-next : (m : Machine) (x : End) (k : Machine) → ended m (step m) x k → x ≡ Completed → start-questions m ≡ 0 → start-questions k ≡ 0
-unfolding ended
-passing-next m x k s f e = step-keeps-passing m k e (inl (rw f at s))
+module _ (m : Machine) (x : End) (k : Machine) (s : ended m (step m) x k) (e : start-questions m ≡ 0) where
+  pub passing-next : x ≡ Completed → start-questions k ≡ 0
+  unfolding ended
+  passing-next f = step-keeps-passing m k e (inl (rw f at s))
 
-pub ruleset runs = (start-law, passing-ring, passing-segment, passing-dbr, spent-law, fault-law, halt-law, next-law, passing-next)
+  pub passing-halt : x ≡ Halted → start-questions k ≡ 0
+  unfolding ended
+  passing-halt f = step-keeps-passing m k e (inr (rw f at s))
+
+  -- a fault's pointer is in range
+  module _ (n : ℕ) (t : Pointer) (f : x ≡ Faulted n t) where
+    pub fault-ring : t .ring ≤ 7
+    unfolding ended
+    fault-ring = fault-pointer-within m n (as-pointer t) e ((rw f at s) .0) .ring-within
+
+    pub fault-segment : t .segment .0 ≤ 4095
+    unfolding ended
+    fault-segment = fault-pointer-within m n (as-pointer t) e ((rw f at s) .0) .segment-within
+
+  pub passing-fault : (n : ℕ) (t : Pointer) → x ≡ Faulted n t → start-questions k ≡ 0
+  unfolding ended
+  passing-fault n t f = ap start-questions ((rw f at s) .1) ∙ e
+
+pub ruleset runs = (start-law, passing-ring, passing-segment, passing-dbr, spent-law, fault-law, halt-law, next-law, passing-next, passing-halt, passing-fault, fault-ring, fault-segment)

@@ -3,7 +3,7 @@ ghost use mathlib.Core.Path.{_≡_};
 ghost use Rattle.model.specs.Questions.{start-questions};
 ghost use Rattle.model.specs.Run as Run;
 ghost use Rattle.processor.specs.View.{as-machine};
-ghost use Rattle.processor.specs.Run.{ran-as};
+ghost use Rattle.processor.specs.Run.{Ran-as};
 use crate::state::After;
 use crate::state::Core;
 use crate::state::End;
@@ -25,7 +25,7 @@ pub struct Ran {
 // Questions 1 to 4 were asked by the caller, and hold on from step to step.
 pub fn run(core: Core, prs: &mut [u64; 8], memory: &mut [u64], budget: u32) -> Ran
     requires { ⌜ start-questions (as-machine core (now prs) (now memory)) ≡ 0 ⌝ }
-    ensures { λ x. ⌜ ran-as (Run.run-from budget 0 (as-machine core (now (prs .entry)) (now (memory .entry)))) x (now (prs .exit)) (now (memory .exit)) ⌝ }
+    ensures { λ x. ⌜ Ran-as (Run.run-from budget 0 (as-machine core (now (prs .entry)) (now (memory .entry)))) x (now (prs .exit)) (now (memory .exit)) ⌝ }
 {
     let mut x = After {
         core,
