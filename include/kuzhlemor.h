@@ -1,0 +1,105 @@
+/* The ring processor as a C library: one step, or a run under a budget, over a register record and a memory that the
+ * caller lends. Link with libkuzhlemor.a (x86-64, System V calling convention).
+ *
+ * The caller tests nothing first. Any values in the record and in memory, broken ones too, any number of words and any
+ * budget get a defined reply. What the caller owes is the usual of C:
+ *   - registers points to one record and memory to `words` words, both aligned, readable and writable; memory isn't
+ *     null, not even when words is 0;
+ *   - record and memory don't overlap, and nobody else reads or writes them during the call.
+ *
+ * After a call, record and memory hold exactly what the completed steps wrote. A refused call and a faulting step leave
+ * both as they were. Nothing is kept between calls. The bytes of padding in the records carry nothing. */
+#ifndef KUZHLEMOR_H
+#define KUZHLEMOR_H
+
+#include <assert.h>
+#include <stddef.h>
+#include <stdint.h>
+
+#ifdef __cplusplus
+extern "C" {
+#endif
+
+/* A word of a segment, and the ring in which it is used: ring 0 to 7, segment 0 to 4,095, word 0 to 65,535. */
+typedef struct {
+    uint8_t ring;
+    uint16_t segment;
+    uint16_t word;
+} kuzhlemor_pointer;
+
+/* The descriptor segment: its absolute address, below 2^24, and its length in words, at most 4,096. */
+typedef struct {
+    uint32_t address;
+    uint16_t length;
+} kuzhlemor_dbr;
+
+/* The registers: A, DBR, IPR, and PR0 to PR7. */
+typedef struct {
+    uint64_t a;
+    kuzhlemor_dbr dbr;
+    kuzhlemor_pointer ipr;
+    kuzhlemor_pointer prs[8];
+} kuzhlemor_registers;
+
+/* The kinds of reply. What a kind doesn't name in its reply is 0, the pointer's fields as well. */
+enum {
+    /* number: the first of these that is answered no. Nothing was done.
+     *   1  memory has at most 16,777,216 words
+     *   2  every ring is at most 7, every segment at most 4,095, DBR's address below 2^24
+     *   3  no PR's ring is below IPR's
+     *   4  DBR's length is at most 4,096, and the descriptor segment lies within memory */
+    KUZHLEMOR_REFUSED = 0,
+    /* count: the steps completed. A run: the whole budget. A single step: 1. */
+    KUZHLEMOR_SPENT = 1,
+    /* count: the steps completed; HLT was the last of them. */
+    KUZHLEMOR_HALTED = 2,
+    /* number: the first question, 11 to 15 or 21 to 34, that the next instruction answered no; pointer: the address and
+     * ring under question; count: the steps completed before it. A single step: 0. */
+    KUZHLEMOR_FAULT = 3
+};
+
+typedef struct {
+    uint32_t kind;
+    uint32_t number;
+    uint32_t count;
+    kuzhlemor_pointer pointer;
+} kuzhlemor_reply;
+
+/* Performs the instruction at IPR. Answers what kuzhlemor_run does with a budget of 1. */
+kuzhlemor_reply kuzhlemor_step(kuzhlemor_registers *registers, uint64_t *memory, size_t words);
+
+/* Performs instructions until HLT, a fault, or as many as the budget says are completed. HLT as the last step of the
+ * budget is halted. With a budget of 0 it asks 1 to 4 and answers refused or spent. A run that was spent goes on where
+ * it stopped when record and memory are lent again as they were left. */
+kuzhlemor_reply kuzhlemor_run(kuzhlemor_registers *registers, uint64_t *memory, size_t words, uint32_t budget);
+
+/* The layout that the library was built for. */
+static_assert(sizeof(size_t) == 8, "64-bit lengths");
+static_assert(sizeof(kuzhlemor_pointer) == 6, "size of a pointer");
+static_assert(offsetof(kuzhlemor_pointer, ring) == 0, "ring");
+static_assert(offsetof(kuzhlemor_pointer, segment) == 2, "segment");
+static_assert(offsetof(kuzhlemor_pointer, word) == 4, "word");
+static_assert(sizeof(kuzhlemor_dbr) == 8, "size of DBR");
+static_assert(offsetof(kuzhlemor_dbr, address) == 0, "DBR's address");
+static_assert(offsetof(kuzhlemor_dbr, length) == 4, "DBR's length");
+static_assert(sizeof(kuzhlemor_registers) == 72, "size of the registers");
+static_assert(offsetof(kuzhlemor_registers, a) == 0, "A");
+static_assert(offsetof(kuzhlemor_registers, dbr) == 8, "DBR");
+static_assert(offsetof(kuzhlemor_registers, ipr) == 16, "IPR");
+static_assert(offsetof(kuzhlemor_registers, prs) == 22, "PR0 to PR7");
+static_assert(sizeof(kuzhlemor_reply) == 20, "size of a reply");
+static_assert(offsetof(kuzhlemor_reply, kind) == 0, "kind");
+static_assert(offsetof(kuzhlemor_reply, number) == 4, "number");
+static_assert(offsetof(kuzhlemor_reply, count) == 8, "count");
+static_assert(offsetof(kuzhlemor_reply, pointer) == 12, "pointer");
+#ifdef __cplusplus
+static_assert(alignof(kuzhlemor_registers) == 8, "alignment of the registers");
+#else
+static_assert(_Alignof(kuzhlemor_registers) == 8, "alignment of the registers");
+#endif
+
+#ifdef __cplusplus
+}
+#endif
+
+#endif
