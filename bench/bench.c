@@ -1,0 +1,230 @@
+/* The library's time against the plain C processor's, on four programs that loop until the budget is spent, and on
+ * single steps. Both run in turn from the same start, the best time of each counts, and both must end alike. */
+#define _POSIX_C_SOURCE 199309L
+
+#include "kuzhlemor.h"
+#include "plain.h"
+#include "same.h"
+#include "words.h"
+
+#include <stdio.h>
+#include <stdlib.h>
+#include <string.h>
+#include <time.h>
+
+enum {
+    WORDS = 256,
+    ROUNDS = 200
+};
+
+typedef struct {
+    kuzhlemor_registers registers;
+    uint64_t memory[WORDS];
+} machine;
+
+typedef kuzhlemor_reply run_function(kuzhlemor_registers *, uint64_t *, size_t, uint32_t);
+
+typedef struct {
+    const char *name;
+    machine (*make)(void);
+    uint32_t steps;
+    run_function *plain;
+    run_function *library;
+} row;
+
+/* Segment 4 holds the program, in ring 4, segment 5 its data; PR1 to PR3 point to words 0, 16 and 32 of the data. */
+static machine start(void)
+{
+    machine m = {.registers = {.dbr = {0, 8}, .ipr = pointer_to(4, 4, 0)}};
+
+    for (int k = 0; k < 8; k++)
+        m.registers.prs[k].ring = 4;
+    m.registers.prs[1] = pointer_to(4, 5, 0);
+    m.registers.prs[2] = pointer_to(4, 5, 16);
+    m.registers.prs[3] = pointer_to(4, 5, 32);
+    m.memory[4] = descriptor_word(16, 48, 4, 4, 4, R | E | V, 0);
+    m.memory[5] = descriptor_word(64, 128, 4, 4, 4, R | W | V, 0);
+    return m;
+}
+
+/* A's operations on constants in the program's own segment; each transfer but the last falls through. */
+static machine arithmetic(void)
+{
+    machine m = start();
+    uint64_t *code = &m.memory[16];
+
+    code[0] = near(LDI, 0) | lit(12345);
+    code[1] = near(ADA, 31);
+    code[2] = near(XRA, 31);
+    code[3] = near(SBA, 31);
+    code[4] = near(TZE, 4);
+    code[5] = near(ORA, 30);
+    code[6] = near(ADA, 26);
+    code[7] = near(ANA, 29);
+    code[8] = near(TMI, 4);
+    code[9] = near(XRA, 24);
+    code[10] = near(CNT, 23);
+    code[11] = near(ADA, 22);
+    code[12] = near(SBA, 22);
+    code[13] = near(ORA, 20);
+    code[14] = near(TRA, -14);
+    code[32] = 0x0123456789abcdef;
+    code[33] = 0x8000000000000421;
+    code[34] = 77;
+    code[35] = 0x00000000ffff0000;
+    code[36] = 0x0fffffffffffffff;
+    return m;
+}
+
+/* Reads, writes and both, all through PRs. */
+static machine loads_and_stores(void)
+{
+    machine m = start();
+    uint64_t *code = &m.memory[16];
+
+    code[0] = by_pr(LDA, 1, 0);
+    code[1] = by_pr(STA, 2, 1);
+    code[2] = by_pr(LDA, 2, 2);
+    code[3] = by_pr(ADA, 1, 3);
+    code[4] = by_pr(STA, 2, 2);
+    code[5] = by_pr(AOS, 1, 0);
+    code[6] = by_pr(LDA, 3, 5);
+    code[7] = by_pr(STA, 3, 6);
+    code[8] = by_pr(SPP, 3, 7) | reg(2);
+    code[9] = by_pr(LDA, 2, 1);
+    code[10] = by_pr(STA, 3, 5);
+    code[11] = near(TRA, -11);
+    m.memory[64 + 3] = 3;
+    return m;
+}
+
+/* Ring 4 calls a gate in ring 1, which returns to it. */
+static machine calls_and_returns(void)
+{
+    machine m = start();
+    uint64_t *code = &m.memory[16];
+    uint64_t *gate = &m.memory[200];
+
+    m.registers.prs[2] = pointer_to(4, 6, 0);
+    m.memory[6] = descriptor_word(200, 8, 1, 1, 5, R | E | V, 1);
+    code[0] = near(EAP, 2) | reg(3);
+    code[1] = by_pr(CALL, 2, 0);
+    code[2] = near(TRA, -2);
+    gate[0] = by_pr(RETURN, 3, 0);
+    return m;
+}
+
+/* Every operand stands at the end of 64 pointer words. */
+static machine pointer_chains(void)
+{
+    machine m = start();
+    uint64_t *code = &m.memory[16];
+    uint64_t *data = &m.memory[64];
+
+    for (unsigned k = 0; k < 64; k++)
+        data[k] = pointer_word(pointer_to(4, 5, k + 1)) | (k < 63 ? POINTER_I_ON : 0);
+    data[64] = 1;
+    code[0] = by_pr(LDA, 1, 0) | I_ON;
+    for (int k = 1; k < 15; k++)
+        code[k] = by_pr(ADA, 1, 0) | I_ON;
+    code[15] = near(TRA, -15);
+    return m;
+}
+
+/* A run by single steps. */
+static kuzhlemor_reply plain_steps(kuzhlemor_registers *registers, uint64_t *memory, size_t words, uint32_t steps)
+{
+    for (uint32_t k = 0; k < steps; k++) {
+        kuzhlemor_reply reply = plain_step(registers, memory, words);
+
+        if (reply.kind != KUZHLEMOR_SPENT)
+            return reply;
+    }
+    return (kuzhlemor_reply){.kind = KUZHLEMOR_SPENT, .count = steps};
+}
+
+static kuzhlemor_reply library_steps(kuzhlemor_registers *registers, uint64_t *memory, size_t words, uint32_t steps)
+{
+    for (uint32_t k = 0; k < steps; k++) {
+        kuzhlemor_reply reply = kuzhlemor_step(registers, memory, words);
+
+        if (reply.kind != KUZHLEMOR_SPENT)
+            return reply;
+    }
+    return (kuzhlemor_reply){.kind = KUZHLEMOR_SPENT, .count = steps};
+}
+
+static double now(void)
+{
+    struct timespec t;
+
+    clock_gettime(CLOCK_MONOTONIC, &t);
+    return (double)t.tv_sec * 1e9 + (double)t.tv_nsec;
+}
+
+/* The time of a run from the start, and in `end` what it leaves. Every run has the same place in memory. */
+static double timed(run_function *run, const machine *from, uint32_t steps, machine *end, kuzhlemor_reply *reply)
+{
+    static _Alignas(4096) machine m;
+    double before;
+    double time;
+
+    m = *from;
+    before = now();
+    *reply = run(&m.registers, m.memory, WORDS, steps);
+    time = now() - before;
+    *end = m;
+    return time;
+}
+
+static void measure(const row *r)
+{
+    machine from = r->make();
+    double best_plain = 0;
+    double best_library = 0;
+
+    for (int round = 0; round < ROUNDS; round++) {
+        machine x;
+        machine y;
+        kuzhlemor_reply s;
+        kuzhlemor_reply t;
+        double plain;
+        double library;
+
+        if (round % 2 == 0) {
+            plain = timed(r->plain, &from, r->steps, &x, &s);
+            library = timed(r->library, &from, r->steps, &y, &t);
+        } else {
+            library = timed(r->library, &from, r->steps, &y, &t);
+            plain = timed(r->plain, &from, r->steps, &x, &s);
+        }
+        if (s.kind != KUZHLEMOR_SPENT || !same_reply(s, t) || !same_registers(&x.registers, &y.registers) ||
+            memcmp(x.memory, y.memory, sizeof x.memory) != 0) {
+            fprintf(stderr, "bench: %s: the two ended differently, or before the budget was spent\n", r->name);
+            exit(1);
+        }
+        if (round == 0 || plain < best_plain)
+            best_plain = plain;
+        if (round == 0 || library < best_library)
+            best_library = library;
+    }
+    printf("%-32s %12.2f %12.2f %16.2f\n", r->name, best_plain / r->steps, best_library / r->steps,
+           best_library / best_plain);
+}
+
+int main(void)
+{
+    static const row rows[] = {
+        {"arithmetic", arithmetic, 100000, plain_run, kuzhlemor_run},
+        {"loads and stores", loads_and_stores, 100000, plain_run, kuzhlemor_run},
+        {"calls and returns", calls_and_returns, 100000, plain_run, kuzhlemor_run},
+        {"pointer chains", pointer_chains, 5000, plain_run, kuzhlemor_run},
+        {"loads and stores, single steps", loads_and_stores, 100000, plain_steps, library_steps},
+    };
+
+    printf("%-32s %12s %12s %16s\n", "", "plain C", "library", "ratio");
+    printf("%-32s %12s %12s %16s\n", "program", "ns a step", "ns a step", "library/plain C");
+    for (size_t k = 0; k < sizeof rows / sizeof rows[0]; k++)
+        measure(&rows[k]);
+    return 0;
+}
