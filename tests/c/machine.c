@@ -1,0 +1,402 @@
+/* Checks and their messages, and the random machines. */
+#include "machine.h"
+
+#include <inttypes.h>
+#include <stdarg.h>
+#include <stdio.h>
+#include <stdlib.h>
+#include <string.h>
+
+enum {
+    OPCODES = 19
+};
+
+static const enum opcode opcodes[OPCODES] = {
+    LDA, STA, ADA, SBA, ANA, ORA, XRA, CNT, AOS, LDI, EAP, SPP, TRA, TZE, TMI, CALL, RETURN, LDBR, HLT,
+};
+
+unsigned long checks;
+
+void check(bool ok, const char *format, ...)
+{
+    va_list arguments;
+
+    checks++;
+    if (ok)
+        return;
+    va_start(arguments, format);
+    fputs("failed: ", stderr);
+    vfprintf(stderr, format, arguments);
+    fputs("\n", stderr);
+    va_end(arguments);
+    exit(1);
+}
+
+machine empty_machine(size_t words)
+{
+    machine m = {.words = words};
+
+    for (unsigned k = 0; k < GUARDS; k++) {
+        m.guards_before[k] = 0xa5a5a5a5a5a50000 + k;
+        m.guards_between[k] = 0x5a5a5a5a5a5a0000 + k;
+    }
+    for (size_t k = words; k < CAPACITY + GUARDS; k++)
+        m.memory[k] = 0x3c3c3c3c3c3c0000 + k;
+    return m;
+}
+
+bool same_machine(const machine *x, const machine *y)
+{
+    return same_registers(&x->registers, &y->registers) && x->words == y->words &&
+           memcmp(x->memory, y->memory, sizeof x->memory) == 0 &&
+           memcmp(x->guards_before, y->guards_before, sizeof x->guards_before) == 0 &&
+           memcmp(x->guards_between, y->guards_between, sizeof x->guards_between) == 0;
+}
+
+kuzhlemor_reply refused(uint32_t number)
+{
+    return (kuzhlemor_reply){.kind = 0, .number = number};
+}
+
+kuzhlemor_reply spent(uint32_t count)
+{
+    return (kuzhlemor_reply){.kind = 1, .count = count};
+}
+
+kuzhlemor_reply halted(uint32_t count)
+{
+    return (kuzhlemor_reply){.kind = 2, .count = count};
+}
+
+kuzhlemor_reply fault(uint32_t number, uint32_t count, kuzhlemor_pointer pointer)
+{
+    return (kuzhlemor_reply){3, number, count, pointer};
+}
+
+static void print_pointer(kuzhlemor_pointer p)
+{
+    fprintf(stderr, " %u|%u|%u", p.ring, p.segment, p.word);
+}
+
+static void print_end(const char *label, const machine *m, kuzhlemor_reply reply)
+{
+    fprintf(stderr, "%s: kind %" PRIu32 ", number %" PRIu32 ", count %" PRIu32 ", at", label, reply.kind, reply.number,
+            reply.count);
+    print_pointer(reply.pointer);
+    fprintf(stderr, "; A %016" PRIx64 ", DBR %" PRIu32 "+%u, IPR", m->registers.a, m->registers.dbr.address,
+            m->registers.dbr.length);
+    print_pointer(m->registers.ipr);
+    fputs(", PRs", stderr);
+    for (int k = 0; k < 8; k++)
+        print_pointer(m->registers.prs[k]);
+    fputs("\n", stderr);
+}
+
+void check_end(const char *who, const char *name, const machine *got, kuzhlemor_reply got_reply, const machine *wanted,
+               kuzhlemor_reply wanted_reply)
+{
+    bool ok = same_reply(got_reply, wanted_reply) && same_machine(got, wanted);
+
+    if (!ok) {
+        print_end("wanted", wanted, wanted_reply);
+        print_end("got   ", got, got_reply);
+        for (size_t k = 0; k < CAPACITY + GUARDS; k++)
+            if (got->memory[k] != wanted->memory[k])
+                fprintf(stderr, "word %zu of %zu: wanted %016" PRIx64 ", got %016" PRIx64 "\n", k, got->words,
+                        wanted->memory[k], got->memory[k]);
+    }
+    check(ok, "%s: %s", who, name);
+}
+
+kuzhlemor_reply run_plain(machine *m, uint32_t budget)
+{
+    size_t bytes = m->words * sizeof m->memory[0];
+    uint64_t *block = malloc(bytes + sizeof m->memory[0]);
+    uint64_t *memory;
+    kuzhlemor_reply reply;
+
+    if (block == NULL) {
+        fputs("no memory\n", stderr);
+        exit(1);
+    }
+    /* The block's last words are lent: what is past them is past the block. */
+    memory = block + 1;
+    memcpy(memory, m->memory, bytes);
+    reply = plain_run(&m->registers, memory, m->words, budget);
+    memcpy(m->memory, memory, bytes);
+    free(block);
+    return reply;
+}
+
+/* Pseudo-random numbers by the splitmix64 recurrence, from a fixed seed. */
+static uint64_t random_word(void)
+{
+    static uint64_t state = 1971;
+    uint64_t z;
+
+    state += 0x9e3779b97f4a7c15;
+    z = state;
+    z = (z ^ z >> 30) * 0xbf58476d1ce4e5b9;
+    z = (z ^ z >> 27) * 0x94d049bb133111eb;
+    return z ^ z >> 31;
+}
+
+uint32_t random_below(uint32_t bound)
+{
+    return (uint32_t)((random_word() >> 32) * bound >> 32);
+}
+
+static bool one_in(uint32_t n)
+{
+    return random_below(n) == 0;
+}
+
+static unsigned smaller_of(unsigned x, unsigned y)
+{
+    return x < y ? x : y;
+}
+
+static unsigned larger_of(unsigned x, unsigned y)
+{
+    return x > y ? x : y;
+}
+
+/* How a random machine is made: instructions from `code_at`, data from `data_at` to the end of memory. Segments of even
+ * number are code, odd ones data. One choice in `odd` is unlikely to work; a pointer word has I off one time in
+ * `chain`.
+ *
+ * Random numbers are never drawn in an order that C leaves open, so that every compiler makes the same machines. */
+typedef struct {
+    uint32_t odd;
+    uint32_t chain;
+    unsigned words;
+    unsigned segments;
+    unsigned code_at;
+    unsigned data_at;
+    unsigned ring;
+} plan;
+
+/* Small and forward, small and back, or rarely any. */
+static unsigned random_offset(const plan *p)
+{
+    if (one_in(p->odd))
+        return random_below(65536);
+    return one_in(16) ? 65535 - random_below(12) : random_below(8);
+}
+
+static unsigned random_segment(const plan *p, bool code)
+{
+    if (one_in(p->odd) || p->segments < 2)
+        return random_below(4096);
+    return code ? random_below((p->segments + 1) / 2) * 2 : random_below(p->segments / 2) * 2 + 1;
+}
+
+static unsigned random_flags(const plan *p, bool code)
+{
+    unsigned flags = code ? V | E : V;
+
+    if (one_in(p->odd))
+        return random_below(16);
+    if (!one_in(8))
+        flags |= R;
+    if (one_in(code ? 6 : 2))
+        flags |= W;
+    if (one_in(4))
+        flags |= E;
+    return flags;
+}
+
+static uint64_t random_descriptor(const plan *p, bool code)
+{
+    unsigned start = code ? p->code_at : p->data_at;
+    unsigned end = code ? p->data_at : p->words;
+    unsigned address = smaller_of(start + random_below(6), end);
+    unsigned length = one_in(8) ? random_below(end - address + 1) : end - address;
+    unsigned r1 = one_in(2) ? random_below(p->ring + 1) : p->ring;
+    unsigned r2 = p->ring + random_below(8 - p->ring);
+    unsigned r3 = random_below(8);
+    unsigned gate = one_in(3) ? random_below(2048) : random_below(24);
+    unsigned flags = random_flags(p, code);
+
+    if (one_in(8)) {
+        address = 0;
+        length = p->words;
+    }
+    if (one_in(code ? 6 : 2)) {
+        r1 = random_below(8);
+        r2 = random_below(8);
+    }
+    if (!one_in(p->odd)) {
+        unsigned low = smaller_of(r1, r2);
+
+        r2 = larger_of(r1, r2);
+        r1 = low;
+        r3 = larger_of(r2, r3);
+    }
+    if (one_in(p->odd))
+        length = one_in(2) ? length + 1 : random_below(65536);
+    if (one_in(p->odd))
+        address = random_below(16777216);
+    return descriptor_word(address, (uint16_t)length, r1, r2, r3, flags, gate);
+}
+
+static uint64_t random_pointer_word(const plan *p)
+{
+    unsigned ring = one_in(6) ? random_below(8) : random_below(p->ring + 1);
+    bool code = one_in(4);
+    unsigned segment = random_segment(p, code);
+    uint64_t word = pointer_word(pointer_to(ring, segment, random_below(code ? 24 : 12)));
+
+    if (!one_in(p->chain))
+        word |= POINTER_I_ON;
+    if (one_in(2))
+        word |= random_word() << 32;
+    return word;
+}
+
+static uint64_t random_instruction(const plan *p)
+{
+    unsigned opcode = opcodes[random_below(OPCODES)];
+    bool moves = opcode >= TRA && opcode <= RETURN;
+    /* PR0 and PR1 start in code. */
+    unsigned pr = random_below(moves ? 3 : 8);
+    bool has_pr = !one_in(moves ? 2 : 8);
+    int offset = (int)random_offset(p);
+    uint64_t word = has_pr ? by_pr(opcode, pr, offset) : near(opcode, offset);
+
+    if (p->ring > 0 && opcode >= LDBR && !one_in(p->odd))
+        word = near(LDI, offset);
+    if (one_in(has_pr ? 4 : p->odd))
+        word |= I_ON;
+    if (one_in(p->odd))
+        word ^= (uint64_t)random_below(65536) << 16;
+    word |= reg(random_below(8));
+    if (!one_in(3))
+        word |= lit((uint32_t)random_word());
+    return word;
+}
+
+static uint64_t random_data(const plan *p)
+{
+    uint64_t word;
+
+    switch (random_below(16)) {
+    case 0:
+        return random_word();
+    case 1:
+        return random_below(16);
+    case 2:
+        return UINT64_MAX - random_below(2);
+    case 3:
+        word = random_below(p->words + 2);
+        word |= dbr_word(0, random_below(12));
+        return word | random_word() << 37;
+    default:
+        return random_pointer_word(p);
+    }
+}
+
+/* Makes one of 2 to 4 be answered no, or two of them. */
+static void spoil(machine *m)
+{
+    kuzhlemor_registers *r = &m->registers;
+    kuzhlemor_pointer *any = one_in(4) ? &r->ipr : &r->prs[random_below(8)];
+
+    switch (random_below(6)) {
+    case 0:
+        any->ring = (uint8_t)(one_in(2) ? 8 : 8 + random_below(248));
+        break;
+    case 1:
+        any->segment = (uint16_t)(one_in(2) ? 4096 : 4096 + random_below(61440));
+        break;
+    case 2:
+        r->dbr.address = one_in(2) ? 16777216 : UINT32_MAX - random_below(4096);
+        break;
+    case 3:
+        if (r->ipr.ring > 0)
+            any->ring = (uint8_t)(r->ipr.ring - 1);
+        break;
+    case 4:
+        r->dbr.length = (uint16_t)(one_in(2) ? 4097 : 4097 + random_below(61439));
+        break;
+    default:
+        r->dbr.address = (uint32_t)(m->words - r->dbr.length + 1 + random_below(3));
+        break;
+    }
+    if (one_in(3))
+        spoil(m);
+}
+
+machine random_machine(void)
+{
+    static const uint32_t odds[] = {12, 50, 200, 5000};
+    unsigned words = one_in(30) ? random_below(12) : 48 + random_below(CAPACITY - 47);
+    unsigned segments = one_in(30) ? random_below(words + 1) : smaller_of(words, 2 + random_below(8));
+    machine m = empty_machine(words);
+    kuzhlemor_registers *r = &m.registers;
+    plan p = {
+        .words = words,
+        .segments = segments,
+        .code_at = segments,
+        .data_at = segments + (words - segments) * 5 / 8,
+    };
+
+    p.odd = odds[random_below(4)];
+    p.chain = one_in(6) ? 60 : 2;
+    p.ring = one_in(3) ? 0 : random_below(8);
+
+    r->a = one_in(3) ? 0 : one_in(2) ? random_word() : random_below(100);
+    r->dbr.address = one_in(8) ? random_below(words - segments + 1) : 0;
+    r->dbr.length = (uint16_t)segments;
+    r->ipr.ring = (uint8_t)p.ring;
+    r->ipr.segment = (uint16_t)random_segment(&p, true);
+    r->ipr.word = (uint16_t)random_below(12);
+    for (int k = 0; k < 8; k++) {
+        r->prs[k].ring = (uint8_t)(one_in(4) ? p.ring + random_below(8 - p.ring) : p.ring);
+        r->prs[k].segment = (uint16_t)random_segment(&p, k < 2);
+        r->prs[k].word = (uint16_t)(one_in(8) ? random_offset(&p) : random_below(6));
+    }
+    for (unsigned k = 0; k < words; k++)
+        m.memory[k] = k < p.data_at ? random_instruction(&p) : random_data(&p);
+    for (unsigned k = 0; k < segments; k++)
+        m.memory[r->dbr.address + k] = random_descriptor(&p, k % 2 == 0);
+    if (one_in(25))
+        spoil(&m);
+    return m;
+}
+
+/* The opcode at IPR of a machine whose fetch passes. */
+static unsigned opcode_at_ipr(const machine *m)
+{
+    const kuzhlemor_registers *r = &m->registers;
+    uint64_t descriptor = m->memory[r->dbr.address + r->ipr.segment];
+    uint64_t instruction = m->memory[(descriptor & 0xffffff) + r->ipr.word];
+
+    return instruction >> 24 & 0xff;
+}
+
+void count_step(tally *t, const machine *before, kuzhlemor_reply reply)
+{
+    switch (reply.kind) {
+    case KUZHLEMOR_REFUSED:
+        t->refused[reply.number]++;
+        break;
+    case KUZHLEMOR_FAULT:
+        t->faults[reply.number]++;
+        break;
+    default:
+        t->completed[opcode_at_ipr(before)]++;
+        break;
+    }
+}
+
+void check_tally(const tally *t)
+{
+    for (size_t k = 0; k < OPCODES; k++)
+        check(t->completed[opcodes[k]] > 0, "no random machine completed opcode %d", (int)opcodes[k]);
+    for (int number = 2; number <= 4; number++)
+        check(t->refused[number] > 0, "no random machine was refused by %d", number);
+    for (int number = 11; number <= 34; number++)
+        if (number <= 15 || number >= 21)
+            check(t->faults[number] > 0, "no random machine gave fault %d", number);
+}
