@@ -2,6 +2,7 @@
 pub mod access;
 pub mod address;
 pub mod control;
+pub mod record;
 pub mod registers;
 pub mod run;
 pub mod segment;

@@ -1,0 +1,22 @@
+-- What a call on a lent record and memory answers and leaves: the definition's reply as numbers, registers and every memory word. Assumes nothing: these are definitions.
+use mathlib.Core.Path.{_≡_}
+use mathlib.Core.List.{List}
+use Prim.Native.Nat.{ℕ}
+use Rattle.model.specs.Answers.{Numbers, reply-numbers, step-numbers}
+use Rattle.model.specs.Run.{run, single-step}
+use Rattle.processor.specs.Record.{pointer-of, registers-of, machine-of}
+use Rattle.processor.specs.declared.record.Registers.{Registers}
+use Rattle.kuzhlemor.specs.declared.Answer.{Answer}
+
+abbrev pub as-numbers : Answer → Numbers
+as-numbers a = record { kind = a .kind; number = a .number; count = a .count; pointer = pointer-of (a .pointer) }
+
+pub record Run-says (budget : ℕ) (before : Registers) (memory : List ℕ) (answer : Answer) (after : Registers) (memory-now : List ℕ) : Type 0 where
+  pub answer-same : as-numbers answer ≡ reply-numbers (run budget (machine-of before memory) .reply)
+  pub registers-same : registers-of after ≡ run budget (machine-of before memory) .machine .registers
+  pub memory-same : memory-now ≡ run budget (machine-of before memory) .machine .memory
+
+pub record Step-says (before : Registers) (memory : List ℕ) (answer : Answer) (after : Registers) (memory-now : List ℕ) : Type 0 where
+  pub answer-same : as-numbers answer ≡ step-numbers (single-step (machine-of before memory) .reply)
+  pub registers-same : registers-of after ≡ single-step (machine-of before memory) .machine .registers
+  pub memory-same : memory-now ≡ single-step (machine-of before memory) .machine .memory

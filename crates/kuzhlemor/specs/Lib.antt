@@ -1,0 +1,2 @@
+-- What the C entry points promise. Assumes nothing: these are definitions.
+pub mod Entry
