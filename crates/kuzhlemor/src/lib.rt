@@ -5,9 +5,9 @@ ghost use Rattle.model.specs.Registers as Model;
 ghost use Rattle.processor.specs.Run.{as-reply, Reply-within};
 ghost use Rattle.processor.specs.Record.{as-step-reply, Step-reply-within};
 ghost use Rattle.kuzhlemor.specs.Entry.{as-numbers, Run-says, Step-says};
+use processor::by_value::StepReply;
 use processor::record::Pointer;
 use processor::record::Registers;
-use processor::record::StepReply;
 use processor::run::Reply;
 
 // An answer as numbers. Kinds: 0 refused, 1 spent or completed, 2 halted, 3 fault; what a kind leaves free is 0.
@@ -76,7 +76,7 @@ pub fn step_answer(reply: StepReply) -> Answer
 pub fn run_answered(registers: Registers, memory: &mut [u64], budget: u32) -> Answered
     ensures { λ x. ⌜ Run-says budget registers (now (memory .entry)) (x .answer) (x .registers) (now (memory .exit)) ⌝ }
 {
-    let x = processor::record::run(registers, memory, budget);
+    let x = processor::by_value::run(registers, memory, budget);
     let after = x.registers;
     let reply = x.reply;
     Answered {
@@ -88,7 +88,7 @@ pub fn run_answered(registers: Registers, memory: &mut [u64], budget: u32) -> An
 pub fn step_answered(registers: Registers, memory: &mut [u64]) -> Answered
     ensures { λ x. ⌜ Step-says registers (now (memory .entry)) (x .answer) (x .registers) (now (memory .exit)) ⌝ }
 {
-    let x = processor::record::step(registers, memory);
+    let x = processor::by_value::step(registers, memory);
     let after = x.registers;
     let reply = x.reply;
     Answered {

@@ -8,10 +8,10 @@ use Rattle.model.specs.Run as Run
 use Rattle.words.specs.View.{as-pointer, Pointer-within}
 use Rattle.processor.specs.declared.record.Pointer.{Pointer}
 use Rattle.processor.specs.declared.record.Registers as Record
-use Rattle.processor.specs.declared.record.Ran.{Ran}
-use Rattle.processor.specs.declared.record.StepReply.{StepReply}
-use Rattle.processor.specs.declared.record.StepReply.the-variants as Code
-use Rattle.processor.specs.declared.record.Stepped.{Stepped}
+use Rattle.processor.specs.declared.by_value.Ran.{Ran}
+use Rattle.processor.specs.declared.by_value.StepReply.{StepReply}
+use Rattle.processor.specs.declared.by_value.StepReply.the-variants as Code
+use Rattle.processor.specs.declared.by_value.Stepped.{Stepped}
 use Rattle.processor.specs.declared.state.Core.{Core}
 use Rattle.processor.specs.View.{registers-with}
 use Rattle.processor.specs.Run.{as-reply, Reply-within}

@@ -1,15 +1,12 @@
-// The register record that a host hands over, and a run and a step by value: they ask 1 to 4, so that the host tests nothing first.
+// The register record that a host hands over, and the core's form of it.
 ghost use mathlib.Core.Path.{_≡_};
 ghost use mathlib.Core.Bool.{true};
 ghost use mathlib.Core.List.{map};
 ghost use Rattle.model.specs.Words as Model;
 ghost use Rattle.model.specs.Questions as Questions;
-ghost use Rattle.model.specs.Run as Run;
 ghost use Rattle.words.specs.View as Words;
 ghost use Rattle.processor.specs.View.{as-registers, as-pointers};
-ghost use Rattle.processor.specs.Run.{as-reply, Reply-within};
-ghost use Rattle.processor.specs.Record.{pointer-of, registers-of, machine-of, In-record, Converted, as-step-reply, Step-reply-within, step-reply-of, Ran-by-value, Stepped-by-value};
-use crate::run::Reply;
+ghost use Rattle.processor.specs.Record.{pointer-of, registers-of, In-record, Converted};
 use crate::state::Core;
 use crate::translate::Dbr;
 use words::pointer::SegmentNumber;
@@ -34,73 +31,6 @@ pub struct Registers {
     pub dbr: DescriptorBase,
     pub ipr: Pointer,
     pub prs: [Pointer; 8],
-}
-
-// 2 of one pointer; a word number is in range by its type.
-pub fn is_in_range(p: Pointer) -> bool
-    ensures { λ r. ⌜ r ≡ Questions.pointer-in-range (pointer-of p) ⌝ }
-{
-    (p.ring <= 7) & ((p.segment <= 4095) & (p.word <= 65535))
-}
-
-// 2 of every PR.
-pub fn prs_are_in_range(prs: [Pointer; 8]) -> bool
-    ensures { λ r. ⌜ r ≡ Questions.all Questions.pointer-in-range (map pointer-of prs) ⌝ }
-{
-    let mut k: usize = 0;
-    while k < 8 {
-        if !is_in_range(prs[k]) {
-            return false;
-        }
-        k += 1;
-    }
-    true
-}
-
-// 2: every pointer and DBR's ADDRESS.
-pub fn are_in_range(registers: Registers) -> bool
-    ensures { λ r. ⌜ r ≡ Questions.registers-in-range (registers-of registers) ⌝ }
-{
-    let prs = registers.prs;
-    is_in_range(registers.ipr) & (prs_are_in_range(prs) & (registers.dbr.address <= 16777215))
-}
-
-// 3: no PR's ring below IPR's.
-pub fn are_at_least(ring: u8, prs: [Pointer; 8]) -> bool
-    ensures { λ r. ⌜ r ≡ Questions.rings-at-least ring (map pointer-of prs) ⌝ }
-{
-    let mut k: usize = 0;
-    while k < 8 {
-        if prs[k].ring < ring {
-            return false;
-        }
-        k += 1;
-    }
-    true
-}
-
-// 1 to 4: the number of the first no, or 0.
-pub fn start_answer(registers: Registers, memory: &[u64]) -> u8
-    ensures { λ n. ⌜ n ≡ Questions.start-questions (machine-of registers (now (memory .entry))) ⌝ }
-{
-    if 16777216 < memory.len() {
-        return 1;
-    }
-    if !are_in_range(registers) {
-        return 2;
-    }
-    let prs = registers.prs;
-    if !are_at_least(registers.ipr.ring, prs) {
-        return 3;
-    }
-    let length = registers.dbr.length;
-    if 4096 < length {
-        return 4;
-    }
-    if memory.len() < registers.dbr.address as usize + length as usize {
-        return 4;
-    }
-    0
 }
 
 // The core's form of a pointer, and back.
@@ -198,71 +128,5 @@ pub fn record_of(core: Core, prs: [u64; 8]) -> Registers
         },
         ipr: from_core(core.ipr),
         prs: prs_in(prs),
-    }
-}
-
-// A run's reply with the registers after it.
-pub struct Ran {
-    pub reply: Reply,
-    pub registers: Registers,
-}
-
-// A run by value: 1 to 4 are asked once, and a no leaves registers and memory as they were.
-pub fn run(registers: Registers, memory: &mut [u64], budget: u32) -> Ran
-    ensures { λ x. ⌜ Ran-by-value (Run.run budget (machine-of registers (now (memory .entry)))) x (now (memory .exit)) ⌝ }
-{
-    let n = start_answer(registers, memory);
-    if n != 0 {
-        return Ran {
-            reply: Reply::Refused(n),
-            registers,
-        };
-    }
-    let q = registers.prs;
-    let mut prs = pr_words(q);
-    let x = crate::run::run(core_of(registers), &mut prs, memory, budget);
-    let core = x.core;
-    let reply = x.reply;
-    Ran {
-        reply,
-        registers: record_of(core, prs),
-    }
-}
-
-// What a single step answers.
-pub enum StepReply {
-    Refused(u8),
-    Completed,
-    Halted,
-    Fault(u8, words::pointer::Pointer),
-}
-
-pub struct Stepped {
-    pub reply: StepReply,
-    pub registers: Registers,
-}
-
-pub fn step_reply(reply: Reply) -> StepReply
-    requires { ⌜ Reply-within reply ⌝ }
-    ensures { λ x. ⌜ (as-step-reply x ≡ step-reply-of (as-reply reply)) × Step-reply-within x ⌝ }
-{
-    match reply {
-        Reply::Refused(n) => StepReply::Refused(n),
-        Reply::Spent(_count) => StepReply::Completed,
-        Reply::Halted(_count) => StepReply::Halted,
-        Reply::Fault(n, _count, t) => StepReply::Fault(n, t),
-    }
-}
-
-// One step by value: a run with budget 1, so that the step has one caller.
-pub fn step(registers: Registers, memory: &mut [u64]) -> Stepped
-    ensures { λ x. ⌜ Stepped-by-value (Run.single-step (machine-of registers (now (memory .entry)))) x (now (memory .exit)) ⌝ }
-{
-    let x = run(registers, memory, 1);
-    let after = x.registers;
-    let reply = x.reply;
-    Stepped {
-        reply: step_reply(reply),
-        registers: after,
     }
 }

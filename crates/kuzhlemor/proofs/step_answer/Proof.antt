@@ -2,7 +2,7 @@
 use mathlib.Core.Path.{_≡_, _∙_, ap, sym, subst}
 use Rattle.model.specs.Answers.{numbers, step-numbers}
 use Rattle.processor.specs.Record.{as-step-reply, Step-reply-within}
-use Rattle.processor.specs.declared.record.StepReply.{StepReply}
+use Rattle.processor.specs.declared.by_value.StepReply.{StepReply}
 use borrow.Author.Needs.{needs}
 use Rattle.kuzhlemor.proofs.step_answer.Statement.{statement}
 use Rattle.kuzhlemor.proofs.step_answer.Tie as tie

@@ -1,8 +1,8 @@
--- `record::is_in_range` meets its contract. Assumes nothing.
+-- `start::is_in_range` meets its contract. Assumes nothing.
 use mathlib.Core.Path.{refl}
 use Rattle.model.specs.Questions.{pointer-in-range}
-use Rattle.processor.proofs.record.is_in_range.Statement.{statement}
-use Rattle.processor.proofs.record.is_in_range.Tie as tie
+use Rattle.processor.proofs.start.is_in_range.Statement.{statement}
+use Rattle.processor.proofs.start.is_in_range.Tie as tie
 
 returns : tie.Need-returns
 unfolding pointer-in-range

@@ -1,8 +1,8 @@
--- `record::step` meets its contract. Assumes nothing.
+-- `by_value::step` meets its contract. Assumes nothing.
 use borrow.Author.Needs.{needs}
 use Rattle.processor.proofs.ByValueLaws.{steps-by-value}
-use Rattle.processor.proofs.record.step.Statement.{statement}
-use Rattle.processor.proofs.record.step.Tie as tie
+use Rattle.processor.proofs.by_value.step.Statement.{statement}
+use Rattle.processor.proofs.by_value.step.Tie as tie
 
 run-requires : tie.Need-run-requires
 run-requires c κs = search needs

@@ -1,4 +1,4 @@
--- `record::are_at_least` meets its contract. Assumes nothing.
+-- `start::are_at_least` meets its contract. Assumes nothing.
 use mathlib.Core.List.{map}
 use mathlib.Core.Path.{_≡_}
 use Prim.Native.Nat.{_-_, _≤_}
@@ -6,8 +6,8 @@ use lib.ListN.{drop}
 use borrow.Author.Needs.{needs}
 use Rattle.model.specs.Questions.{rings-at-least}
 use Rattle.processor.proofs.RecordLaws.{each-in-turn}
-use Rattle.processor.proofs.record.are_at_least.Statement.{statement}
-use Rattle.processor.proofs.record.are_at_least.Tie as tie
+use Rattle.processor.proofs.start.are_at_least.Statement.{statement}
+use Rattle.processor.proofs.start.are_at_least.Tie as tie
 use Rattle.processor.specs.Record.{pointer-of}
 
 abbrev Inv-loop : tie.InvT-loop

@@ -1,4 +1,4 @@
--- `record::prs_are_in_range` meets its contract. Assumes nothing.
+-- `start::prs_are_in_range` meets its contract. Assumes nothing.
 use mathlib.Core.List.{map}
 use mathlib.Core.Path.{_≡_}
 use Prim.Native.Nat.{_-_, _≤_}
@@ -6,8 +6,8 @@ use lib.ListN.{drop}
 use borrow.Author.Needs.{needs}
 use Rattle.model.specs.Questions.{all, pointer-in-range}
 use Rattle.processor.proofs.RecordLaws.{each-in-turn}
-use Rattle.processor.proofs.record.prs_are_in_range.Statement.{statement}
-use Rattle.processor.proofs.record.prs_are_in_range.Tie as tie
+use Rattle.processor.proofs.start.prs_are_in_range.Statement.{statement}
+use Rattle.processor.proofs.start.prs_are_in_range.Tie as tie
 use Rattle.processor.specs.Record.{pointer-of}
 
 abbrev Inv-loop : tie.InvT-loop

@@ -1,8 +1,8 @@
--- `record::step_reply` meets its contract. Assumes nothing.
+-- `by_value::step_reply` meets its contract. Assumes nothing.
 use borrow.Author.Needs.{needs}
 use Rattle.processor.proofs.RecordLaws.{step-replies}
-use Rattle.processor.proofs.record.step_reply.Statement.{statement}
-use Rattle.processor.proofs.record.step_reply.Tie as tie
+use Rattle.processor.proofs.by_value.step_reply.Statement.{statement}
+use Rattle.processor.proofs.by_value.step_reply.Tie as tie
 
 enum-known-reply : tie.Need-enum-known-reply
 enum-known-reply c = search needs

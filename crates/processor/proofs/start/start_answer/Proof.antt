@@ -1,8 +1,8 @@
--- `record::start_answer` meets its contract. Assumes nothing.
+-- `start::start_answer` meets its contract. Assumes nothing.
 use borrow.Author.Needs.{needs}
 use Rattle.processor.proofs.RecordLaws.{start-answers}
-use Rattle.processor.proofs.record.start_answer.Statement.{statement}
-use Rattle.processor.proofs.record.start_answer.Tie as tie
+use Rattle.processor.proofs.start.start_answer.Statement.{statement}
+use Rattle.processor.proofs.start.start_answer.Tie as tie
 
 returns : tie.Need-returns
 returns c = search (needs, start-answers)

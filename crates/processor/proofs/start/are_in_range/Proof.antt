@@ -1,8 +1,8 @@
--- `record::are_in_range` meets its contract. Assumes nothing.
+-- `start::are_in_range` meets its contract. Assumes nothing.
 use borrow.Author.Needs.{needs}
 use Rattle.model.specs.Questions.{registers-in-range}
-use Rattle.processor.proofs.record.are_in_range.Statement.{statement}
-use Rattle.processor.proofs.record.are_in_range.Tie as tie
+use Rattle.processor.proofs.start.are_in_range.Statement.{statement}
+use Rattle.processor.proofs.start.are_in_range.Tie as tie
 
 is-in-range-requires : tie.Need-is-in-range-requires
 is-in-range-requires c κs = search needs

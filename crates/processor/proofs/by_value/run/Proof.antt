@@ -1,8 +1,8 @@
--- `record::run` meets its contract. Assumes nothing.
+-- `by_value::run` meets its contract. Assumes nothing.
 use borrow.Author.Needs.{needs}
 use Rattle.processor.proofs.ByValueLaws.{runs-by-value}
-use Rattle.processor.proofs.record.run.Statement.{statement}
-use Rattle.processor.proofs.record.run.Tie as tie
+use Rattle.processor.proofs.by_value.run.Statement.{statement}
+use Rattle.processor.proofs.by_value.run.Tie as tie
 
 start-answer-requires : tie.Need-start-answer-requires
 start-answer-requires c κs = search needs
