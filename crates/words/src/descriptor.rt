@@ -37,7 +37,7 @@ pub fn decode(w: u64) -> Descriptor
     }
 }
 
-// The address of a word of the segment, whose descriptor has passed 11 to 15.
+// The address of a word of a segment, through the segment's descriptor.
 pub fn absolute_address(d: Descriptor, word: WordNumber) -> AbsoluteAddress
     requires { ⌜ d .address < 16777216 ⌝ }
     ensures { λ a. ⌜ a .0 ≡ d .address + word .0 ⌝ }
