@@ -131,11 +131,14 @@ static machine pointer_chains(void)
     return m;
 }
 
+typedef kuzhlemor_reply step_function(kuzhlemor_registers *, uint64_t *, size_t);
+
 /* A run by single steps. */
-static kuzhlemor_reply plain_steps(kuzhlemor_registers *registers, uint64_t *memory, size_t words, uint32_t steps)
+static kuzhlemor_reply by_steps(step_function *step, kuzhlemor_registers *registers, uint64_t *memory, size_t words,
+                                uint32_t steps)
 {
     for (uint32_t k = 0; k < steps; k++) {
-        kuzhlemor_reply reply = plain_step(registers, memory, words);
+        kuzhlemor_reply reply = step(registers, memory, words);
 
         if (reply.kind != KUZHLEMOR_SPENT)
             return reply;
@@ -143,15 +146,14 @@ static kuzhlemor_reply plain_steps(kuzhlemor_registers *registers, uint64_t *mem
     return (kuzhlemor_reply){.kind = KUZHLEMOR_SPENT, .count = steps};
 }
 
+static kuzhlemor_reply plain_steps(kuzhlemor_registers *registers, uint64_t *memory, size_t words, uint32_t steps)
+{
+    return by_steps(plain_step, registers, memory, words, steps);
+}
+
 static kuzhlemor_reply library_steps(kuzhlemor_registers *registers, uint64_t *memory, size_t words, uint32_t steps)
 {
-    for (uint32_t k = 0; k < steps; k++) {
-        kuzhlemor_reply reply = kuzhlemor_step(registers, memory, words);
-
-        if (reply.kind != KUZHLEMOR_SPENT)
-            return reply;
-    }
-    return (kuzhlemor_reply){.kind = KUZHLEMOR_SPENT, .count = steps};
+    return by_steps(kuzhlemor_step, registers, memory, words, steps);
 }
 
 static double now(void)

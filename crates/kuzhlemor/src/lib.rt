@@ -3,11 +3,11 @@ ghost use mathlib.Core.Path.{_≡_};
 ghost use Rattle.model.specs.Answers as Answers;
 ghost use Rattle.model.specs.Registers as Model;
 ghost use Rattle.processor.specs.Run.{as-reply, Reply-within};
-ghost use Rattle.processor.specs.Record.{as-step-reply, Step-reply-within};
+ghost use Rattle.machine.specs.Record.{as-step-reply, Step-reply-within};
 ghost use Rattle.kuzhlemor.specs.Entry.{as-numbers, Run-says, Step-says};
-use processor::by_value::StepReply;
-use processor::record::Pointer;
-use processor::record::Registers;
+use machine::by_value::StepReply;
+use machine::record::Pointer;
+use machine::record::Registers;
 use processor::run::Reply;
 
 // An answer as numbers. Kinds: 0 refused, 1 spent or completed, 2 halted, 3 fault; what a kind leaves free is 0.
@@ -24,7 +24,7 @@ pub struct Answered {
     pub registers: Registers,
 }
 
-pub fn answer_without_pointer(kind: u32, number: u32, count: u32) -> Answer
+fn answer_without_pointer(kind: u32, number: u32, count: u32) -> Answer
     ensures { λ x. ⌜ as-numbers x ≡ Answers.numbers kind number count Model.zero-pointer ⌝ }
 {
     Answer {
@@ -39,7 +39,7 @@ pub fn answer_without_pointer(kind: u32, number: u32, count: u32) -> Answer
     }
 }
 
-pub fn run_answer(reply: Reply) -> Answer
+fn run_answer(reply: Reply) -> Answer
     requires { ⌜ Reply-within reply ⌝ }
     ensures { λ x. ⌜ as-numbers x ≡ Answers.reply-numbers (as-reply reply) ⌝ }
 {
@@ -51,12 +51,12 @@ pub fn run_answer(reply: Reply) -> Answer
             kind: 3,
             number: n as u32,
             count,
-            pointer: processor::record::from_core(t),
+            pointer: machine::record::from_core(t),
         },
     }
 }
 
-pub fn step_answer(reply: StepReply) -> Answer
+fn step_answer(reply: StepReply) -> Answer
     requires { ⌜ Step-reply-within reply ⌝ }
     ensures { λ x. ⌜ as-numbers x ≡ Answers.step-numbers (as-step-reply reply) ⌝ }
 {
@@ -68,7 +68,7 @@ pub fn step_answer(reply: StepReply) -> Answer
             kind: 3,
             number: n as u32,
             count: 0,
-            pointer: processor::record::from_core(t),
+            pointer: machine::record::from_core(t),
         },
     }
 }
@@ -76,7 +76,7 @@ pub fn step_answer(reply: StepReply) -> Answer
 pub fn run_answered(registers: Registers, memory: &mut [u64], budget: u32) -> Answered
     ensures { λ x. ⌜ Run-says budget registers (now (memory .entry)) (x .answer) (x .registers) (now (memory .exit)) ⌝ }
 {
-    let x = processor::by_value::run(registers, memory, budget);
+    let x = machine::by_value::run(registers, memory, budget);
     let after = x.registers;
     let reply = x.reply;
     Answered {
@@ -88,7 +88,7 @@ pub fn run_answered(registers: Registers, memory: &mut [u64], budget: u32) -> An
 pub fn step_answered(registers: Registers, memory: &mut [u64]) -> Answered
     ensures { λ x. ⌜ Step-says registers (now (memory .entry)) (x .answer) (x .registers) (now (memory .exit)) ⌝ }
 {
-    let x = processor::by_value::step(registers, memory);
+    let x = machine::by_value::step(registers, memory);
     let after = x.registers;
     let reply = x.reply;
     Answered {

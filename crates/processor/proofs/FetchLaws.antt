@@ -5,7 +5,7 @@ use Prim.Native.Nat.{ℕ, _+_}
 use native.Mathlib.Omega.{arith}
 use lib.Dec.{eqb}
 use lib.ListN.{length, getD}
-use borrow.Author.Tests.{not-true, not-false}
+use borrow.Author.Tests.{not-true, not-false, ne-eqb}
 use Rattle.model.specs.Words.{Instruction, instruction-in}
 use Rattle.model.specs.Registers.{Machine}
 use Rattle.model.specs.Opcodes as Opcodes
@@ -25,26 +25,29 @@ use Rattle.processor.specs.Translation.{translated}
 use Rattle.processor.specs.Step.{opcode-answer, obeyed, entry-in}
 use Rattle.processor.proofs.UseLaws.{refused-faults, answer-passed, word-passed}
 
--- 32 and 33 as one answer
-module _ (k : Kind) (b : Bool) (n : ℕ) (e : b ≡ known k) where
-  pub answer-32 : not b ≡ true → 32 ≡ opcode-answer k n
+-- 33, where an opcode is privileged
+pub in-ring-0 : (n : ℕ) → n ≡ 0 → 0 ≡ ask (eqb n 0) 33 0
+unfolding ask
+in-ring-0 n e = rw e
+
+pub not-in-ring-0 : (n : ℕ) → (n ≡ 0 → ⊥) → 33 ≡ ask (eqb n 0) 33 0
+unfolding ask
+not-in-ring-0 n e = rw (ne-eqb n 0 e)
+
+module _ (k : Kind) (n x : ℕ) (e : x ≡ ask (eqb n 0) 33 0) where
+  pub answer-dbr : k ≡ Dbr → x ≡ opcode-answer k n
   unfolding opcode-answer ask
-  answer-32 v = rw (← e, not-true b v)
+  answer-dbr h = e ∙ rw h
 
-  module _ (c : Bool) (f : c ≡ privileged k) (v : not b ≡ false) where
-    pub answer-33 : (c && not (eqb n 0)) ≡ true → 33 ≡ opcode-answer k n
-    unfolding opcode-answer ask
-    answer-33 w = rw (← e, not-false b v, ← f, w)
+  pub answer-halt : k ≡ Halt → x ≡ opcode-answer k n
+  unfolding opcode-answer ask
+  answer-halt h = e ∙ rw h
 
-    pub answer-yes : (c && not (eqb n 0)) ≡ false → 0 ≡ opcode-answer k n
-    unfolding opcode-answer ask
-    answer-yes w = rw (← e, not-false b v, ← f, w)
-
-pub ruleset answers = (answer-32, answer-33, answer-yes)
+pub ruleset privileges = (in-ring-0, not-in-ring-0, answer-dbr, answer-halt)
 
 -- a privileged opcode's program, by whether the ring is 0
 only-in-ring-0 : (m : Machine) (b : Bool) (p : Program) →
-    execute m (cond b p (fail 33 (m .registers .ipr))) ≡ or-fault (ask (not (not b)) 33 0) (m .registers .ipr) (execute m p)
+    execute m (cond b p (fail 33 (m .registers .ipr))) ≡ or-fault (ask b 33 0) (m .registers .ipr) (execute m p)
 unfolding execute ask or-fault
 only-in-ring-0 m true p = refl
 only-in-ring-0 m false p = refl

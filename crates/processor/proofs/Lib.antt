@@ -12,5 +12,3 @@ pub mod RegisterLaws
 pub mod FetchLaws
 pub mod StepLaws
 pub mod RunLaws
-pub mod RecordLaws
-pub mod ByValueLaws

@@ -4,4 +4,3 @@ pub mod Translation
 pub mod Address
 pub mod Step
 pub mod Run
-pub mod Record

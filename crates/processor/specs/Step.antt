@@ -1,6 +1,6 @@
 -- What fetching answers, and a fetched instruction of a kind as a program. Assumes nothing: these are definitions.
 use mathlib.Core.Path.{_≡_}
-use mathlib.Core.Bool.{_&&_, not}
+use mathlib.Core.Bool.{true, cond}
 use mathlib.Core.List.{List}
 use Prim.Native.Nat.{ℕ, _≤_}
 use lib.Dec.{eqb}
@@ -33,7 +33,7 @@ checked b m ipr t (Checked.Ring n) = (call-answer b m ipr t ≡ 0) × (n ≡ new
 
 -- 32 AND 33 by an opcode's kind
 unfoldable pub opcode-answer : Kind → (ring : ℕ) → ℕ
-opcode-answer k n = ask (known k) 32 (ask (not (privileged k && not (eqb n 0))) 33 0)
+opcode-answer k n = ask (known k) 32 (ask (cond (privileged k) (eqb n 0) true) 33 0)
 
 -- once 32 and 33 have a yes; an opcode that is in no table has none
 unfoldable pub performed : (size : ℕ) → Option Opcode → Words.Instruction → Registers.Registers → Words.Pointer → Program

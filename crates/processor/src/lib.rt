@@ -1,13 +1,10 @@
 // The processor: translation, the effective address, every opcode, the step and the run, each equal to its definition in `model`.
 pub mod access;
 pub mod address;
-pub mod by_value;
 pub mod control;
-pub mod record;
 pub mod registers;
 pub mod run;
 pub mod segment;
-pub mod start;
 pub mod state;
 pub mod step;
 pub mod translate;

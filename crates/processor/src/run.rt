@@ -2,6 +2,7 @@
 ghost use mathlib.Core.Path.{_≡_};
 ghost use Rattle.model.specs.Questions.{start-questions};
 ghost use Rattle.model.specs.Run as Run;
+ghost use Rattle.words.specs.Table.{Right-table};
 ghost use Rattle.processor.specs.View.{as-machine};
 ghost use Rattle.processor.specs.Run.{Ran-as};
 use crate::state::After;
@@ -23,8 +24,8 @@ pub struct Ran {
 }
 
 // Questions 1 to 4 were asked by the caller, and hold on from step to step.
-pub fn run(core: Core, prs: &mut [u64; 8], memory: &mut [u64], budget: u32) -> Ran
-    requires { ⌜ start-questions (as-machine core (now prs) (now memory)) ≡ 0 ⌝ }
+pub fn run(core: Core, prs: &mut [u64; 8], memory: &mut [u64], table: &[u8; 42], budget: u32) -> Ran
+    requires { ⌜ (start-questions (as-machine core (now prs) (now memory)) ≡ 0) × Right-table (now table) ⌝ }
     ensures { λ x. ⌜ Ran-as (Run.run-from budget 0 (as-machine core (now (prs .entry)) (now (memory .entry)))) x (now (prs .exit)) (now (memory .exit)) ⌝ }
 {
     let mut x = After {
@@ -33,7 +34,7 @@ pub fn run(core: Core, prs: &mut [u64; 8], memory: &mut [u64], budget: u32) -> R
     };
     let mut count: u32 = 0;
     while count < budget {
-        x = crate::step::step(x.core, prs, memory);
+        x = crate::step::step(x.core, prs, memory, table);
         let end = x.end;
         match end {
             End::Completed => {}

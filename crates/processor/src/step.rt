@@ -1,8 +1,11 @@
 // One step: fetch, operand, perform. Each is called at one place, so that the compiler merges all into the loop of a run.
 ghost use mathlib.Core.Path.{_≡_};
+ghost use lib.Dec.{eqb};
 ghost use lib.ListN.{length};
 ghost use Rattle.model.specs.Words.{instruction-in};
 ghost use Rattle.model.specs.Step as Step;
+ghost use Rattle.model.specs.Questions.{ask};
+ghost use Rattle.words.specs.Table.{Right-table};
 ghost use Rattle.words.specs.View.{as-pointer, Pointer-within};
 ghost use Rattle.processor.specs.View.{as-registers, as-machine, Ready, does, ended};
 ghost use Rattle.processor.specs.Step.{opcode-answer, fetched-with-any-prs, performed, obeyed, entry-in};
@@ -20,22 +23,36 @@ pub enum Fetched {
     Word(u64, Kind),
 }
 
-// 32: opcode in the table? 33: ring 0, if privileged? 0 is a yes to both.
+// 33: ring 0? 0 is a yes.
+pub fn privilege_answer(ring: u64) -> u8
+    ensures { λ n. ⌜ n ≡ ask (eqb ring 0) 33 0 ⌝ }
+{
+    if ring == 0 { 0 } else { 33 }
+}
+
+// 32: opcode in the table? 33, if privileged. 0 is a yes to both.
 pub fn kind_answer(kind: Kind, ring: u64) -> u8
     ensures { λ n. ⌜ n ≡ opcode-answer kind ring ⌝ }
 {
-    if !words::opcodes::is_known(kind) {
-        return 32;
+    match kind {
+        Kind::Read => 0,
+        Kind::Write => 0,
+        Kind::Update => 0,
+        Kind::Address => 0,
+        Kind::Pointer => 0,
+        Kind::Transfer => 0,
+        Kind::Call => 0,
+        Kind::Return => 0,
+        Kind::Dbr => privilege_answer(ring),
+        Kind::Halt => privilege_answer(ring),
+        Kind::Literal => 0,
+        Kind::Unknown => 32,
     }
-    if words::opcodes::is_privileged(kind) & (ring != 0) {
-        return 33;
-    }
-    0
 }
 
 // 11 to 15, 21, 32 and 33.
-pub fn fetch(core: Core, memory: &[u64]) -> Fetched
-    requires { ⌜ Ready core (now memory) ⌝ }
+pub fn fetch(core: Core, memory: &[u64], table: &[u8; 42]) -> Fetched
+    requires { ⌜ Ready core (now memory) × Right-table (now table) ⌝ }
     ensures { λ x. ⌜ fetched-with-any-prs core (now (memory .entry)) x ⌝ }
 {
     let dbr = core.dbr;
@@ -47,7 +64,7 @@ pub fn fetch(core: Core, memory: &[u64]) -> Fetched
                 return Fetched::Refused(21);
             }
             let w = crate::segment::read(memory, d, ipr.word);
-            let kind = words::opcodes::kind_of(words::instruction::opcode(w));
+            let kind = words::opcodes::kind_of(table, words::instruction::opcode(w));
             let n = kind_answer(kind, ipr.ring);
             if n != 0 {
                 return Fetched::Refused(n);
@@ -112,11 +129,11 @@ pub fn obey(core: Core, prs: &mut [u64; 8], memory: &mut [u64], w: u64, kind: Ki
 }
 
 // The step. Questions 1 to 4 were asked before the run and hold on.
-pub fn step(core: Core, prs: &mut [u64; 8], memory: &mut [u64]) -> After
-    requires { ⌜ Ready core (now memory) ⌝ }
+pub fn step(core: Core, prs: &mut [u64; 8], memory: &mut [u64], table: &[u8; 42]) -> After
+    requires { ⌜ Ready core (now memory) × Right-table (now table) ⌝ }
     ensures { λ x. ⌜ ended (as-machine core (now (prs .entry)) (now (memory .entry))) (Step.step (as-machine core (now (prs .entry)) (now (memory .entry)))) (x .end) (as-machine (x .core) (now (prs .exit)) (now (memory .exit))) ⌝ }
 {
-    match fetch(core, memory) {
+    match fetch(core, memory, table) {
         Fetched::Refused(n) => {
             let ipr = core.ipr;
             After {

@@ -14,7 +14,7 @@ use Rattle.model.proofs.Computing.{by-computation}
 use Rattle.model.proofs.TableLaws.{Each, Outside, outside-not-decoded, each-number}
 use Rattle.words.specs.declared.opcodes.Kind.{Kind}
 use Rattle.words.specs.declared.opcodes.Kind.the-variants.{Unknown, Read, Write, Update, Literal, Address, Pointer, Transfer, Call, Return, Dbr, Halt}
-use Rattle.words.specs.Table.{result, taken, entry-of, Told}
+use Rattle.words.specs.Table.{result, taken, entry-of, Told, kind-numbered, Right-table}
 
 -- WHAT THE TABLE SHOULD SAY of each number
 unfoldable pub kind-for : (opcode : ℕ) → Kind
@@ -94,71 +94,58 @@ kind-for-is-told =
     each-number (λ n. Told n (kind-for n)) kind-for-told
     (λ n out. subst (Told n) (sym (kind-for-outside n out)) (unfold Told entry-of in outside-not-decoded n out))
 
--- KINDS are told apart by a number
-unfoldable pub tag : Kind → ℕ
-tag Unknown = 0
-tag Read = 1
-tag Write = 2
-tag Update = 3
-tag Literal = 4
-tag Address = 5
-tag Pointer = 6
-tag Transfer = 7
-tag Call = 8
-tag Return = 9
-tag Dbr = 10
-tag Halt = 11
+-- THE TEST over a table, from entry i on: each number is that of the kind that should stand there
+unfoldable pub number-of : Kind → ℕ
+number-of Read = 0
+number-of Write = 1
+number-of Update = 2
+number-of Address = 3
+number-of Pointer = 4
+number-of Transfer = 5
+number-of Call = 6
+number-of Return = 7
+number-of Dbr = 8
+number-of Halt = 9
+number-of Literal = 10
+number-of Unknown = 11
 
-unfoldable untag : ℕ → Kind
-untag n =
-    cond (eqb n 0) Unknown
-    (cond (eqb n 1) Read
-    (cond (eqb n 2) Write
-    (cond (eqb n 3) Update
-    (cond (eqb n 4) Literal
-    (cond (eqb n 5) Address
-    (cond (eqb n 6) Pointer
-    (cond (eqb n 7) Transfer
-    (cond (eqb n 8) Call
-    (cond (eqb n 9) Return
-    (cond (eqb n 10) Dbr Halt))))))))))
+numbered : (k : Kind) → kind-numbered (number-of k) ≡ k
+unfolding number-of kind-numbered
+numbered Read = refl
+numbered Write = refl
+numbered Update = refl
+numbered Address = refl
+numbered Pointer = refl
+numbered Transfer = refl
+numbered Call = refl
+numbered Return = refl
+numbered Dbr = refl
+numbered Halt = refl
+numbered Literal = refl
+numbered Unknown = refl
 
-untag-tag : (k : Kind) → untag (tag k) ≡ k
-unfolding tag untag
-untag-tag Unknown = refl
-untag-tag Read = refl
-untag-tag Write = refl
-untag-tag Update = refl
-untag-tag Literal = refl
-untag-tag Address = refl
-untag-tag Pointer = refl
-untag-tag Transfer = refl
-untag-tag Call = refl
-untag-tag Return = refl
-untag-tag Dbr = refl
-untag-tag Halt = refl
-
-same-tag : (j k : Kind) → eqb (tag j) (tag k) ≡ true → j ≡ k
-same-tag j k e = sym (untag-tag j) ∙ ap untag (eqb-true (tag j) (tag k) e) ∙ untag-tag k
-
--- THE TEST over a table, from entry i on
-unfoldable pub right-from : (i : ℕ) → List Kind → Bool
+unfoldable pub right-from : (i : ℕ) → List ℕ → Bool
 right-from i [] = true
-right-from i (k ∷ ks) = eqb (tag k) (tag (kind-for i)) && right-from (suc i) ks
+right-from i (n ∷ ns) = eqb n (number-of (kind-for i)) && right-from (suc i) ns
 
-told-from : (ks : List Kind) (d : Kind) (i j : ℕ) → right-from i ks ≡ true → j < length ks → Told (i + j) (getD ks j d)
+told-from : (ns : List ℕ) (i j : ℕ) → right-from i ns ≡ true → j < length ns → Told (i + j) (kind-numbered (getD ns j 0))
 unfolding right-from
-told-from [] d i j t h = absurd (not-suc-le-zero h)
-told-from (k ∷ ks) d i zero t h =
-    subst (λ n. Told n k) (sym (add-zero i))
-    (subst (Told i) (sym (same-tag k (kind-for i) (and-left (eqb (tag k) (tag (kind-for i))) (right-from (suc i) ks) t))) (kind-for-is-told i))
-told-from (k ∷ ks) d i (suc j) t h =
-    subst (λ n. Told n (getD ks j d)) (suc-add i j ∙ sym (add-suc i j))
-    (told-from ks d (suc i) j (and-right (eqb (tag k) (tag (kind-for i))) (right-from (suc i) ks) t) (le-of-suc-le-suc h))
+told-from [] i j t h = absurd (not-suc-le-zero h)
+told-from (n ∷ ns) i zero t h =
+    subst (λ z. Told z (kind-numbered n)) (sym (add-zero i))
+    (subst (Told i) (sym (ap kind-numbered (eqb-true n _ (and-left _ (right-from (suc i) ns) t)) ∙ numbered (kind-for i))) (kind-for-is-told i))
+told-from (n ∷ ns) i (suc j) t h =
+    subst (λ z. Told z (kind-numbered (getD ns j 0))) (suc-add i j ∙ sym (add-suc i j))
+    (told-from ns (suc i) j (and-right (eqb n (number-of (kind-for i))) (right-from (suc i) ns) t) (le-of-suc-le-suc h))
 
--- 42 entries are right, and past them no opcode is known
-pub table-law : (ks : List Kind) (d : Kind) (n : ℕ) → right-from 0 ks ≡ true → n < length ks → Told n (getD ks n d)
-table-law ks d n t h = subst (λ m. Told m (getD ks n d)) (zero-add n) (told-from ks d 0 n t h)
+pub right-table : (ns : List ℕ) → right-from 0 ns ≡ true → length ns ≡ 42 → Right-table ns
+unfolding Right-table
+right-table ns t e o h = subst (λ z. Told z (kind-numbered (getD ns o 0))) (zero-add o) (told-from ns 0 o t (omega arith))
+
+-- AN OPCODE LOOKED UP: in the table, or past its end
+pub table-law : (ns : List ℕ) (o : ℕ) (k : Kind) → Right-table ns → o < 42 → k ≡ kind-numbered (getD ns o 0) → Told o k
+unfolding Right-table
+table-law ns o k right h e = subst (Told o) (sym e) (right o h)
 
 pub past-law : (n : ℕ) → 42 ≤ n → Told n Unknown
 unfolding by-computation
@@ -190,6 +177,17 @@ past-law n h = subst (Told n) (kind-for-outside n out) (kind-for-is-told n)
           ldbr = differs 40 (omega arith);
           hlt = differs 41 (omega arith);
         }
+
+-- A KIND BY ITS NUMBER, for each arm
+pub kind-at : (n i : ℕ) → n ≡ i → kind-numbered i ≡ kind-numbered n
+kind-at n i e = ap kind-numbered (sym e)
+
+pub no-kind-at : (n : ℕ) →
+    (n ≡ 0 → ⊥) → (n ≡ 1 → ⊥) → (n ≡ 2 → ⊥) → (n ≡ 3 → ⊥) → (n ≡ 4 → ⊥) → (n ≡ 5 → ⊥) → (n ≡ 6 → ⊥) → (n ≡ 7 → ⊥) → (n ≡ 8 → ⊥) → (n ≡ 9 → ⊥) → (n ≡ 10 → ⊥) →
+    Unknown ≡ kind-numbered n
+unfolding kind-numbered
+no-kind-at n a b c d e f g h i j k =
+    simp (ne-eqb n 0 a, ne-eqb n 1 b, ne-eqb n 2 c, ne-eqb n 3 d, ne-eqb n 4 e, ne-eqb n 5 f, ne-eqb n 6 g, ne-eqb n 7 h, ne-eqb n 8 i, ne-eqb n 9 j, ne-eqb n 10 k)
 
 -- A READ'S RESULT, for each arm
 module _ (o a w r : ℕ) where

@@ -2,8 +2,10 @@
 use mathlib.Core.Path.{_≡_}
 use mathlib.Core.Bool.{Bool, true, false, cond}
 use mathlib.Core.Option.{Option, none, some}
-use Prim.Native.Nat.{ℕ, _+_, _*_, _-_, _%_}
+use mathlib.Core.List.{List}
+use Prim.Native.Nat.{ℕ, _+_, _*_, _-_, _%_, _<_}
 use lib.Dec.{leb, eqb}
+use lib.ListN.{getD}
 use Rattle.model.specs.Opcodes as Opcodes
 use Rattle.model.specs.Opcodes.{Opcode, unprivileged, reads, transfers, sum, difference, bitwise, count-of-ones, decoded}
 use Rattle.words.specs.declared.opcodes.Kind.{Kind}
@@ -53,6 +55,20 @@ entry-of o Halt = some Opcodes.HLT
 
 unfoldable pub Told : (opcode : ℕ) → Kind → Type 0
 Told o k = decoded o ≡ entry-of o k
+
+-- THE TABLE IN CODE holds a number for each kind
+unfoldable pub kind-numbered : ℕ → Kind
+kind-numbered n =
+    cond (eqb n 0) Read
+    (cond (eqb n 1) Write
+    (cond (eqb n 2) Update
+    (cond (eqb n 3) Address
+    (cond (eqb n 4) Pointer
+    (cond (eqb n 5) Transfer
+    (cond (eqb n 6) Call (cond (eqb n 7) Return (cond (eqb n 8) Dbr (cond (eqb n 9) Halt (cond (eqb n 10) Literal Unknown))))))))))
+
+unfoldable pub Right-table : List ℕ → Type 0
+Right-table numbers = (opcode : ℕ) → opcode < 42 → Told opcode (kind-numbered (getD numbers opcode 0))
 
 -- does it form an address?
 abbrev pub operand : Kind → Bool

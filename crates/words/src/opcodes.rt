@@ -1,13 +1,12 @@
 // The constant table of the opcodes: each number's kind, which says its operand, its privilege and its access.
 ghost use mathlib.Core.Path.{_≡_};
-ghost use Rattle.words.specs.Table.{Told, known, operand, privileged, result, taken};
+ghost use Rattle.words.specs.Table.{Right-table, Told, kind-numbered, operand, result, taken};
 
+// The kinds that have an operand and no privilege come first: one comparison passes them all.
 pub enum Kind {
-    Unknown,
     Read,
     Write,
     Update,
-    Literal,
     Address,
     Pointer,
     Transfer,
@@ -15,77 +14,116 @@ pub enum Kind {
     Return,
     Dbr,
     Halt,
+    Literal,
+    Unknown,
 }
 
-const OPCODES: [Kind; 42] = [
-    Kind::Unknown,
-    Kind::Read,
-    Kind::Write,
-    Kind::Read,
-    Kind::Read,
-    Kind::Read,
-    Kind::Read,
-    Kind::Read,
-    Kind::Read,
-    Kind::Update,
-    Kind::Literal,
-    Kind::Unknown,
-    Kind::Unknown,
-    Kind::Unknown,
-    Kind::Unknown,
-    Kind::Unknown,
-    Kind::Address,
-    Kind::Pointer,
-    Kind::Unknown,
-    Kind::Unknown,
-    Kind::Unknown,
-    Kind::Unknown,
-    Kind::Unknown,
-    Kind::Unknown,
-    Kind::Transfer,
-    Kind::Transfer,
-    Kind::Transfer,
-    Kind::Unknown,
-    Kind::Unknown,
-    Kind::Unknown,
-    Kind::Unknown,
-    Kind::Unknown,
-    Kind::Call,
-    Kind::Return,
-    Kind::Unknown,
-    Kind::Unknown,
-    Kind::Unknown,
-    Kind::Unknown,
-    Kind::Unknown,
-    Kind::Unknown,
-    Kind::Dbr,
-    Kind::Halt,
+// A kind's number in the table.
+const READ: u8 = 0;
+
+const WRITE: u8 = 1;
+
+const UPDATE: u8 = 2;
+
+const ADDRESS: u8 = 3;
+
+const POINTER: u8 = 4;
+
+const TRANSFER: u8 = 5;
+
+const CALL: u8 = 6;
+
+const RETURN: u8 = 7;
+
+const DBR: u8 = 8;
+
+const HALT: u8 = 9;
+
+const LITERAL: u8 = 10;
+
+const UNKNOWN: u8 = 11;
+
+const OPCODES: [u8; 42] = [
+    UNKNOWN,
+    READ,
+    WRITE,
+    READ,
+    READ,
+    READ,
+    READ,
+    READ,
+    READ,
+    UPDATE,
+    LITERAL,
+    UNKNOWN,
+    UNKNOWN,
+    UNKNOWN,
+    UNKNOWN,
+    UNKNOWN,
+    ADDRESS,
+    POINTER,
+    UNKNOWN,
+    UNKNOWN,
+    UNKNOWN,
+    UNKNOWN,
+    UNKNOWN,
+    UNKNOWN,
+    TRANSFER,
+    TRANSFER,
+    TRANSFER,
+    UNKNOWN,
+    UNKNOWN,
+    UNKNOWN,
+    UNKNOWN,
+    UNKNOWN,
+    CALL,
+    RETURN,
+    UNKNOWN,
+    UNKNOWN,
+    UNKNOWN,
+    UNKNOWN,
+    UNKNOWN,
+    UNKNOWN,
+    DBR,
+    HALT,
 ];
 
+// The table, built once a run and lent from there.
+pub fn table() -> [u8; 42]
+    ensures { λ t. ⌜ Right-table t ⌝ }
+{
+    OPCODES
+}
+
+pub fn kind_numbered(number: u8) -> Kind
+    ensures { λ k. ⌜ k ≡ kind-numbered number ⌝ }
+{
+    match number {
+        READ => Kind::Read,
+        WRITE => Kind::Write,
+        UPDATE => Kind::Update,
+        ADDRESS => Kind::Address,
+        POINTER => Kind::Pointer,
+        TRANSFER => Kind::Transfer,
+        CALL => Kind::Call,
+        RETURN => Kind::Return,
+        DBR => Kind::Dbr,
+        HALT => Kind::Halt,
+        LITERAL => Kind::Literal,
+        _ => Kind::Unknown,
+    }
+}
+
 // What the table says of an opcode; a number past its end is in no table.
-pub fn kind_of(opcode: u8) -> Kind
+pub fn kind_of(table: &[u8; 42], opcode: u8) -> Kind
+    requires { ⌜ Right-table (now table) ⌝ }
     ensures { λ k. ⌜ Told opcode k ⌝ }
 {
     let i = opcode as usize;
-    if i < 42 { OPCODES[i] } else { Kind::Unknown }
-}
-
-pub fn is_known(k: Kind) -> bool
-    ensures { λ r. ⌜ r ≡ known k ⌝ }
-{
-    match k {
-        Kind::Unknown => false,
-        Kind::Read => true,
-        Kind::Write => true,
-        Kind::Update => true,
-        Kind::Literal => true,
-        Kind::Address => true,
-        Kind::Pointer => true,
-        Kind::Transfer => true,
-        Kind::Call => true,
-        Kind::Return => true,
-        Kind::Dbr => true,
-        Kind::Halt => true,
+    if i < 42 {
+        kind_numbered(table[i])
+    } else {
+        Kind::Unknown
     }
 }
 
@@ -93,11 +131,9 @@ pub fn has_operand(k: Kind) -> bool
     ensures { λ r. ⌜ r ≡ operand k ⌝ }
 {
     match k {
-        Kind::Unknown => false,
         Kind::Read => true,
         Kind::Write => true,
         Kind::Update => true,
-        Kind::Literal => false,
         Kind::Address => true,
         Kind::Pointer => true,
         Kind::Transfer => true,
@@ -105,25 +141,8 @@ pub fn has_operand(k: Kind) -> bool
         Kind::Return => true,
         Kind::Dbr => true,
         Kind::Halt => false,
-    }
-}
-
-pub fn is_privileged(k: Kind) -> bool
-    ensures { λ r. ⌜ r ≡ privileged k ⌝ }
-{
-    match k {
-        Kind::Unknown => false,
-        Kind::Read => false,
-        Kind::Write => false,
-        Kind::Update => false,
         Kind::Literal => false,
-        Kind::Address => false,
-        Kind::Pointer => false,
-        Kind::Transfer => false,
-        Kind::Call => false,
-        Kind::Return => false,
-        Kind::Dbr => true,
-        Kind::Halt => true,
+        Kind::Unknown => false,
     }
 }
 

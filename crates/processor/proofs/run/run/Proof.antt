@@ -11,12 +11,12 @@ use Rattle.processor.proofs.run.run.Tie as tie
 use Rattle.processor.specs.View.{as-machine}
 
 abbrev Inv-loop : tie.InvT-loop
-Inv-loop prs₀ memory₀ budget x₀ count₀ prs memory x count =
+Inv-loop prs₀ memory₀ table budget x₀ count₀ prs memory x count =
     (count ≤ budget) × (length memory ≡ length memory₀) × (start-questions (as-machine (x .core) prs memory) ≡ 0)
     × (run-from (budget - count) count (as-machine (x .core) prs memory) ≡ run-from budget 0 (as-machine (x₀ .core) prs₀ memory₀))
 
 abbrev μ-loop : tie.MeasureT-loop
-μ-loop prs₀ memory₀ budget x₀ count₀ prs memory x count = budget - count
+μ-loop prs₀ memory₀ table budget x₀ count₀ prs memory x count = budget - count
 
 loop-holds : tie.Need-loop-holds Inv-loop μ-loop
 loop-holds c = search (needs, runs)
@@ -30,8 +30,8 @@ enum-told c = search (needs, runs)
 enum-told-2 : tie.Need-enum-told-2 Inv-loop μ-loop
 enum-told-2 c = search (needs, runs)
 
-add-t18 : tie.Need-add-t18 Inv-loop μ-loop
-add-t18 c = search (needs, runs)
+add-t19 : tie.Need-add-t19 Inv-loop μ-loop
+add-t19 c = search (needs, runs)
 
 same-length : tie.Need-same-length Inv-loop μ-loop
 same-length c = search (needs, runs)
@@ -73,7 +73,7 @@ run-spec =
     step-requires
     enum-told
     enum-told-2
-    add-t18
+    add-t19
     same-length
     returns
     enum-known-end

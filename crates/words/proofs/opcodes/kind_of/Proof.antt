@@ -1,19 +1,20 @@
 -- `opcodes::kind_of` meets its contract. Assumes nothing.
 use borrow.Author.Needs.{needs}
-use Rattle.words.proofs.OpcodeLaws.{table-law, past-law, right-from, kind-for, tag}
+use Rattle.words.proofs.OpcodeLaws.{table-law, past-law}
 use Rattle.words.proofs.opcodes.kind_of.Statement.{statement}
 use Rattle.words.proofs.opcodes.kind_of.Tie as tie
 
-array-copy-out-result : tie.Need-array-copy-out-result
-array-copy-out-result c = search needs
+element-copy-out-kind-numbered : tie.Need-element-copy-out-kind-numbered
+element-copy-out-kind-numbered c = search needs
+
+kind-numbered-requires : tie.Need-kind-numbered-requires
+kind-numbered-requires c κs = search needs
 
 returns : tie.Need-returns
-unfolding right-from kind-for tag
 returns c = search (needs, table-law)
 
 returns-2 : tie.Need-returns-2
-unfolding right-from kind-for tag
 returns-2 c = search (needs, past-law)
 
 pub kind-of-spec : {M : Type 1} → statement M
-kind-of-spec = tie.close (tie.spec array-copy-out-result returns returns-2)
+kind-of-spec = tie.close (tie.spec element-copy-out-kind-numbered kind-numbered-requires returns returns-2)
