@@ -11,4 +11,10 @@ kuzhlemor_reply plain_step(kuzhlemor_registers *registers, uint64_t *memory, siz
 /* As kuzhlemor_run. */
 kuzhlemor_reply plain_run(kuzhlemor_registers *registers, uint64_t *memory, size_t words, uint32_t budget);
 
+/* The listing of a run, into a text with 64 bytes for each line: its length, or 0 if the run is refused. */
+size_t plain_list(kuzhlemor_registers *registers, uint64_t *memory, size_t words, uint32_t budget, uint8_t *text);
+
+/* As kuzhlemor_bench. */
+int64_t plain_bench(const uint8_t *image, size_t image_length, uint8_t *text, size_t text_length);
+
 #endif

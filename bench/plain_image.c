@@ -1,0 +1,143 @@
+/* Images and listings of the plain processor. */
+#include "plain_step.h"
+
+enum {
+    MOST_IMAGE_WORDS = 8192
+};
+
+/* What an image records. */
+typedef struct {
+    kuzhlemor_registers registers;
+    uint64_t memory[MOST_IMAGE_WORDS];
+    size_t words;
+    uint32_t budget;
+} image_machine;
+
+/* A number in decimal, and the byte that ends it. */
+static uint8_t *put(uint8_t *to, uint32_t number, uint8_t end)
+{
+    uint8_t digits[10];
+    int count = 0;
+
+    do {
+        digits[count++] = (uint8_t)('0' + number % 10);
+        number /= 10;
+    } while (number != 0);
+    while (count > 0)
+        *to++ = digits[--count];
+    *to++ = end;
+    return to;
+}
+
+static uint8_t *put_word(uint8_t *to, const char *word)
+{
+    while (*word != 0)
+        *to++ = (uint8_t)*word++;
+    return to;
+}
+
+static uint8_t *put_pointer(uint8_t *to, kuzhlemor_pointer p)
+{
+    to = put(to, p.ring, ' ');
+    to = put(to, p.segment, ' ');
+    return put(to, p.word, '\n');
+}
+
+size_t plain_list(kuzhlemor_registers *registers, uint64_t *memory, size_t words, uint32_t budget, uint8_t *text)
+{
+    uint8_t *to = text;
+
+    if (refusal(registers, words) != 0)
+        return 0;
+    for (uint32_t count = 0; count < budget; count++) {
+        kuzhlemor_pointer at;
+        int end = step(registers, memory, words, &at);
+
+        if (end != COMPLETED && end != HALTED) {
+            to = put(put(put_word(to, "fault "), (uint32_t)end, ' '), count, ' ');
+            return (size_t)(put_pointer(to, at) - text);
+        }
+        to = put_pointer(put(to, count + 1, ' '), registers->ipr);
+        if (end == HALTED)
+            return (size_t)(put(put_word(to, "halted "), count + 1, '\n') - text);
+    }
+    return (size_t)(put(put_word(to, "spent "), budget, '\n') - text);
+}
+
+/* A number of an image, high byte first. */
+static uint64_t number_at(const uint8_t *bytes, size_t count)
+{
+    uint64_t number = 0;
+
+    for (size_t k = 0; k < count; k++)
+        number = number << 8 | bytes[k];
+    return number;
+}
+
+static kuzhlemor_pointer pointer_at(const uint8_t *bytes)
+{
+    return (kuzhlemor_pointer){bytes[0], (uint16_t)number_at(bytes + 1, 2), (uint16_t)number_at(bytes + 3, 2)};
+}
+
+static void registers_at(const uint8_t *bytes, kuzhlemor_registers *r)
+{
+    r->a = number_at(bytes, 8);
+    r->dbr = (kuzhlemor_dbr){(uint32_t)number_at(bytes + 8, 4), (uint16_t)number_at(bytes + 12, 2)};
+    r->ipr = pointer_at(bytes + 14);
+    for (int k = 0; k < 8; k++)
+        r->prs[k] = pointer_at(bytes + 19 + 5 * k);
+}
+
+/* 41 to 44 of each record, in order; the number of the first no, or 0. */
+static int load(const uint8_t *image, size_t length, image_machine *m)
+{
+    bool has_registers = false;
+    bool has_memory = false;
+
+    while (length > 0) {
+        const uint8_t *numbers = image + 2;
+        bool me = length >= 2 && image[0] == 'M' && image[1] == 'E';
+        bool st = length >= 2 && image[0] == 'S' && image[1] == 'T';
+        bool wd = length >= 2 && image[0] == 'W' && image[1] == 'D';
+        bool rn = length >= 2 && image[0] == 'R' && image[1] == 'N';
+        size_t size = st ? 61 : wd ? 14 : 6;
+
+        if (!(me || st || wd || rn) || length < size)
+            return 41;
+        if (me ? has_memory : !has_memory || (st && has_registers) || (rn && (!has_registers || length > size)))
+            return 42;
+        if (me) {
+            if (number_at(numbers, 4) > MOST_IMAGE_WORDS)
+                return 43;
+            m->words = number_at(numbers, 4);
+            has_memory = true;
+        } else if (st) {
+            registers_at(numbers, &m->registers);
+            has_registers = true;
+        } else if (wd) {
+            if (number_at(numbers, 4) >= m->words)
+                return 44;
+            m->memory[number_at(numbers, 4)] = number_at(numbers + 4, 8);
+        } else {
+            m->budget = (uint32_t)number_at(numbers, 4);
+            return 0;
+        }
+        image += size;
+        length -= size;
+    }
+    return 42;
+}
+
+int64_t plain_bench(const uint8_t *image, size_t image_length, uint8_t *text, size_t text_length)
+{
+    image_machine m = {0};
+    int number = load(image, image_length, &m);
+
+    if (number == 0)
+        number = (int)refusal(&m.registers, m.words);
+    if (number == 0 && text_length < 64 * ((uint64_t)m.budget + 1))
+        number = 45;
+    if (number != 0)
+        return -number;
+    return (int64_t)plain_list(&m.registers, m.memory, m.words, m.budget, text);
+}

@@ -1,0 +1,365 @@
+/* The machine of document 01 in ordinary C, written from 01 alone. Nothing here is proved. Each file that includes it has
+ * one loop of steps, so that the compiler merges the whole step into that loop. */
+#ifndef PLAIN_STEP_H
+#define PLAIN_STEP_H
+
+#include "plain.h"
+#include "words.h"
+
+#include <stdbool.h>
+
+enum {
+    MOST_WORDS = 16777216,
+    MOST_DESCRIPTORS = 4096,
+    MOST_POINTER_WORDS = 64
+};
+
+/* How a step ended; any other number is that of a fault. */
+enum {
+    COMPLETED = 0,
+    HALTED = 1
+};
+
+/* What an opcode asks for, beside its own questions. */
+enum {
+    KNOWN = 1,
+    OPERAND = 2,
+    PRIVILEGED = 4,
+    READ = 8,
+    WRITE = 16
+};
+
+static const uint8_t opcodes[256] = {
+    [LDA] = KNOWN | OPERAND | READ,
+    [STA] = KNOWN | OPERAND | WRITE,
+    [ADA] = KNOWN | OPERAND | READ,
+    [SBA] = KNOWN | OPERAND | READ,
+    [ANA] = KNOWN | OPERAND | READ,
+    [ORA] = KNOWN | OPERAND | READ,
+    [XRA] = KNOWN | OPERAND | READ,
+    [CNT] = KNOWN | OPERAND | READ,
+    [AOS] = KNOWN | OPERAND | READ | WRITE,
+    [LDI] = KNOWN,
+    [EAP] = KNOWN | OPERAND,
+    [SPP] = KNOWN | OPERAND | WRITE,
+    [TRA] = KNOWN | OPERAND,
+    [TZE] = KNOWN | OPERAND,
+    [TMI] = KNOWN | OPERAND,
+    [CALL] = KNOWN | OPERAND,
+    [RETURN] = KNOWN | OPERAND,
+    [LDBR] = KNOWN | OPERAND | PRIVILEGED | READ,
+    [HLT] = KNOWN | PRIVILEGED,
+};
+
+static inline uint32_t field(uint64_t word, unsigned place, unsigned width)
+{
+    return (uint32_t)(word >> place & (((uint64_t)1 << width) - 1));
+}
+
+static inline bool bit(uint64_t word, unsigned place)
+{
+    return field(word, place, 1) != 0;
+}
+
+/* The fields of a descriptor. */
+static inline uint32_t address(uint64_t d) { return field(d, 0, 24); }
+static inline uint32_t length(uint64_t d) { return field(d, 24, 16); }
+static inline uint32_t r1(uint64_t d) { return field(d, 40, 3); }
+static inline uint32_t r2(uint64_t d) { return field(d, 43, 3); }
+static inline uint32_t r3(uint64_t d) { return field(d, 46, 3); }
+static inline uint32_t gate(uint64_t d) { return field(d, 53, 11); }
+
+static inline uint32_t larger(uint32_t x, uint32_t y)
+{
+    return x > y ? x : y;
+}
+
+static inline uint32_t smaller(uint32_t x, uint32_t y)
+{
+    return x < y ? x : y;
+}
+
+static uint64_t count_of_ones(uint64_t word)
+{
+    uint64_t count = 0;
+
+    for (; word != 0; word &= word - 1)
+        count++;
+    return count;
+}
+
+/* 11 to 15: the descriptor of a segment that is used. */
+static inline int find(const kuzhlemor_registers *r, const uint64_t *memory, size_t words, kuzhlemor_pointer p,
+                       uint64_t *descriptor)
+{
+    uint64_t d;
+
+    if (p.segment >= r->dbr.length)
+        return 11;
+    d = memory[r->dbr.address + p.segment];
+    if (!bit(d, 52))
+        return 12;
+    if (r1(d) > r2(d) || r2(d) > r3(d))
+        return 13;
+    if (address(d) + length(d) > words)
+        return 14;
+    if (p.word >= length(d))
+        return 15;
+    *descriptor = d;
+    return 0;
+}
+
+static inline bool may_read(uint64_t d, uint32_t ring)
+{
+    return bit(d, 49) && ring <= r2(d);
+}
+
+static inline bool may_write(uint64_t d, uint32_t ring)
+{
+    return bit(d, 50) && ring <= r1(d);
+}
+
+static inline bool may_execute(uint64_t d, uint32_t ring)
+{
+    return bit(d, 51) && r1(d) <= ring && ring <= r2(d);
+}
+
+/* TPR: the address with its effective ring, through pointer words while I is on. */
+static int form_address(const kuzhlemor_registers *r, const uint64_t *memory, size_t words, uint64_t instruction,
+                        kuzhlemor_pointer *at)
+{
+    kuzhlemor_pointer tpr = r->ipr;
+    bool indirect = bit(instruction, 20);
+    int number = 0;
+
+    if (bit(instruction, 19)) {
+        tpr = r->prs[field(instruction, 16, 3)];
+        tpr.ring = (uint8_t)larger(tpr.ring, r->ipr.ring);
+    }
+    tpr.word = (uint16_t)(tpr.word + field(instruction, 0, 16));
+
+    for (int count = 0; indirect; count++) {
+        uint64_t d;
+        uint64_t word;
+
+        if (count == MOST_POINTER_WORDS) {
+            number = 31;
+            break;
+        }
+        number = find(r, memory, words, tpr, &d);
+        if (number != 0)
+            break;
+        if (!may_read(d, tpr.ring)) {
+            number = 22;
+            break;
+        }
+        word = memory[address(d) + tpr.word];
+        tpr.ring = (uint8_t)larger(larger(tpr.ring, field(word, 28, 3)), r1(d));
+        tpr.segment = (uint16_t)field(word, 16, 12);
+        tpr.word = (uint16_t)field(word, 0, 16);
+        indirect = bit(word, 31);
+    }
+    *at = tpr;
+    return number;
+}
+
+/* 24 and 25. */
+static int transfer(kuzhlemor_registers *r, uint64_t d, kuzhlemor_pointer tpr)
+{
+    if (tpr.ring != r->ipr.ring)
+        return 24;
+    if (!may_execute(d, tpr.ring))
+        return 25;
+    r->ipr = tpr;
+    return COMPLETED;
+}
+
+/* 26 to 30. */
+static int call(kuzhlemor_registers *r, uint64_t d, kuzhlemor_pointer tpr)
+{
+    uint8_t ring = (uint8_t)smaller(tpr.ring, r2(d));
+
+    if (!bit(d, 51))
+        return 26;
+    if (tpr.segment != r->ipr.segment && tpr.word >= gate(d))
+        return 27;
+    if (tpr.ring > r3(d))
+        return 28;
+    if (tpr.ring < r1(d))
+        return 29;
+    if (ring > r->ipr.ring)
+        return 30;
+    r->ipr = (kuzhlemor_pointer){ring, tpr.segment, tpr.word};
+    r->prs[7] = (kuzhlemor_pointer){ring, ring, 0};
+    return COMPLETED;
+}
+
+/* 25. */
+static int return_to(kuzhlemor_registers *r, uint64_t d, kuzhlemor_pointer tpr)
+{
+    if (!may_execute(d, tpr.ring))
+        return 25;
+    r->ipr = tpr;
+    for (int k = 0; k < 8; k++)
+        r->prs[k].ring = (uint8_t)larger(r->prs[k].ring, tpr.ring);
+    return COMPLETED;
+}
+
+/* 34. */
+static int load_dbr(kuzhlemor_registers *r, size_t words, uint64_t word)
+{
+    uint32_t base = field(word, 0, 24);
+    uint32_t bound = field(word, 24, 13);
+
+    if (bound > MOST_DESCRIPTORS || base + bound > words)
+        return 34;
+    r->dbr = (kuzhlemor_dbr){base, (uint16_t)bound};
+    r->ipr.word++;
+    return COMPLETED;
+}
+
+/* Performs an instruction at its effective address; a fault comes before anything is changed. */
+static int perform(kuzhlemor_registers *r, uint64_t *memory, size_t words, uint64_t instruction, kuzhlemor_pointer tpr)
+{
+    uint32_t opcode = field(instruction, 24, 8);
+    uint32_t reg = field(instruction, 21, 3);
+    uint64_t d;
+    uint64_t *target;
+    int number;
+
+    /* Where no segment is used. */
+    switch (opcode) {
+    case LDI:
+        r->a = field(instruction, 32, 32);
+        r->ipr.word++;
+        return COMPLETED;
+    case EAP:
+        r->prs[reg] = tpr;
+        r->ipr.word++;
+        return COMPLETED;
+    case HLT:
+        r->ipr.word++;
+        return HALTED;
+    case TZE:
+        if (r->a == 0)
+            break;
+        r->ipr.word++;
+        return COMPLETED;
+    case TMI:
+        if (bit(r->a, 63))
+            break;
+        r->ipr.word++;
+        return COMPLETED;
+    default:
+        break;
+    }
+
+    number = find(r, memory, words, tpr, &d);
+    if (number != 0)
+        return number;
+    if ((opcodes[opcode] & READ) != 0 && !may_read(d, tpr.ring))
+        return 22;
+    if ((opcodes[opcode] & WRITE) != 0 && !may_write(d, tpr.ring))
+        return 23;
+    target = &memory[address(d) + tpr.word];
+
+    switch (opcode) {
+    case LDA:
+        r->a = *target;
+        break;
+    case STA:
+        *target = r->a;
+        break;
+    case ADA:
+        r->a += *target;
+        break;
+    case SBA:
+        r->a -= *target;
+        break;
+    case ANA:
+        r->a &= *target;
+        break;
+    case ORA:
+        r->a |= *target;
+        break;
+    case XRA:
+        r->a ^= *target;
+        break;
+    case CNT:
+        r->a = count_of_ones(*target);
+        break;
+    case AOS:
+        *target += 1;
+        break;
+    case SPP:
+        *target = pointer_word(r->prs[reg]);
+        break;
+    case TRA:
+    case TZE:
+    case TMI:
+        return transfer(r, d, tpr);
+    case CALL:
+        return call(r, d, tpr);
+    case RETURN:
+        return return_to(r, d, tpr);
+    case LDBR:
+        return load_dbr(r, words, *target);
+    default:
+        break;
+    }
+    r->ipr.word++;
+    return COMPLETED;
+}
+
+/* One step; `at` becomes the address and ring under question. */
+static int step(kuzhlemor_registers *r, uint64_t *memory, size_t words, kuzhlemor_pointer *at)
+{
+    uint64_t d;
+    uint64_t instruction;
+    uint8_t kind;
+    int number;
+
+    *at = r->ipr;
+    number = find(r, memory, words, r->ipr, &d);
+    if (number != 0)
+        return number;
+    if (!may_execute(d, r->ipr.ring))
+        return 21;
+    instruction = memory[address(d) + r->ipr.word];
+    kind = opcodes[field(instruction, 24, 8)];
+    if ((kind & KNOWN) == 0)
+        return 32;
+    if ((kind & PRIVILEGED) != 0 && r->ipr.ring != 0)
+        return 33;
+    if ((kind & OPERAND) != 0) {
+        number = form_address(r, memory, words, instruction, at);
+        if (number != 0)
+            return number;
+    }
+    return perform(r, memory, words, instruction, *at);
+}
+
+static bool in_range(kuzhlemor_pointer p)
+{
+    return p.ring <= 7 && p.segment <= 4095;
+}
+
+/* 1 to 4: the number of the first no, or 0. */
+static uint32_t refusal(const kuzhlemor_registers *r, size_t words)
+{
+    if (words > MOST_WORDS)
+        return 1;
+    if (!in_range(r->ipr) || r->dbr.address > 16777215)
+        return 2;
+    for (int k = 0; k < 8; k++)
+        if (!in_range(r->prs[k]))
+            return 2;
+    for (int k = 0; k < 8; k++)
+        if (r->prs[k].ring < r->ipr.ring)
+            return 3;
+    if (r->dbr.length > MOST_DESCRIPTORS || r->dbr.address + r->dbr.length > words)
+        return 4;
+    return 0;
+}
+
+#endif

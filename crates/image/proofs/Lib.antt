@@ -1,0 +1,7 @@
+-- Laws of this crate. Assumes nothing.
+pub mod NumberLaws
+pub mod MarkLaws
+pub mod RegisterLaws
+pub mod RecordLaws
+pub mod PartLaws
+pub mod LoadLaws

@@ -1,0 +1,54 @@
+// What the records so far gave, and what comes of one record.
+ghost use Rattle.image.specs.View.{Starts};
+use machine::record::DescriptorBase;
+use machine::record::Pointer;
+use machine::record::Registers;
+
+// Memory itself is lent beside this; `words` is ME's number.
+pub struct Loading {
+    pub has_memory: bool,
+    pub words: u32,
+    pub has_registers: bool,
+    pub registers: Registers,
+}
+
+pub enum Outcome {
+    // The first question with a no.
+    Refused(u8),
+    // The bytes don't hold a whole record, or not all of what decides it.
+    Waits,
+    // A record of so many bytes was loaded.
+    Next(usize),
+    // RN has come, with its budget; 1 to 4 are yet to be asked.
+    Ready(u32),
+}
+
+pub struct Recorded {
+    pub loading: Loading,
+    pub outcome: Outcome,
+}
+
+// Before the first record; what is lent is zeros.
+pub fn nothing_loaded() -> Loading
+    ensures { λ x. ⌜ Starts x ⌝ }
+{
+    let zero = Pointer {
+        ring: 0,
+        segment: 0,
+        word: 0,
+    };
+    Loading {
+        has_memory: false,
+        words: 0,
+        has_registers: false,
+        registers: Registers {
+            a: 0,
+            dbr: DescriptorBase {
+                address: 0,
+                length: 0,
+            },
+            ipr: zero,
+            prs: [zero; 8],
+        },
+    }
+}
