@@ -27,5 +27,5 @@ pub record Loading-within (l : Loading) (m : List ℕ) : Type 0 where
   pub memory-within : Memory-within (l .«has_memory») (l .words) m
 
 -- nothing is loaded, and 8,192 zeros may be lent
-abbrev pub Starts : Loading → Type 0
+unfoldable pub Starts : Loading → Type 0
 Starts l = (m : List ℕ) → m ≡ replicate 8192 0 → Loading-within l m × (as-loading l m ≡ Image.nothing-loaded)

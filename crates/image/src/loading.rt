@@ -1,4 +1,6 @@
 // What the records so far gave, and what comes of one record.
+ghost use mathlib.Core.Path.{_≡_};
+ghost use lib.ListN.{length, replicate};
 ghost use Rattle.image.specs.View.{Starts};
 use machine::record::DescriptorBase;
 use machine::record::Pointer;
@@ -51,4 +53,11 @@ pub fn nothing_loaded() -> Loading
             prs: [zero; 8],
         },
     }
+}
+
+// What is lent before the first record. The length is said once more for those who lend it as a slice.
+pub fn empty_memory() -> [u64; 8192]
+    ensures { λ r. ⌜ (r ≡ replicate 8192 0) × (8192 ≡ length r) ⌝ }
+{
+    [0; 8192]
 }

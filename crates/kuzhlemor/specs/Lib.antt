@@ -1,2 +1,3 @@
 -- What the C entry points promise. Assumes nothing: these are definitions.
 pub mod Entry
+pub mod Bench

@@ -1,9 +1,12 @@
-// The C library: a run and a step over a register record and a memory that the host lends.
+// The C library: a run and a step over a register record and a memory that the host lends, and an image run whole.
+pub mod bench;
+
 ghost use mathlib.Core.Path.{_≡_};
 ghost use Rattle.model.specs.Answers as Answers;
 ghost use Rattle.model.specs.Registers as Model;
 ghost use Rattle.processor.specs.Run.{as-reply, Reply-within};
 ghost use Rattle.machine.specs.Record.{as-step-reply, Step-reply-within};
+ghost use Rattle.model.specs.Bench as Bench;
 ghost use Rattle.kuzhlemor.specs.Entry.{as-numbers, Run-says, Step-says};
 use machine::by_value::StepReply;
 use machine::record::Pointer;
@@ -121,4 +124,16 @@ pub extern "C" fn kuzhlemor_run(
     let next = run_answered(now, memory, budget);
     *registers = next.registers;
     next.answer
+}
+
+// An image and a text buffer, both as bytes, for the image's listing: the question's number negated, or the text's length.
+#[no_mangle]
+pub extern "C" fn kuzhlemor_bench(image: &[u8], text: &mut [u8]) -> i64
+    ensures { λ r. ⌜ (r ≡ Bench.bench (now (image .entry)) (now (text .entry)) .answer) × (now (text .exit) ≡ Bench.bench (now (image .entry)) (now (text .entry)) .buffer) ⌝ }
+{
+    let x = crate::bench::bench(image, text);
+    if x.number != 0 {
+        return -(x.number as i64);
+    }
+    x.length as i64
 }

@@ -4,7 +4,7 @@ use mathlib.Core.Bool.{Bool, true, false, false≢true, true≢false}
 use mathlib.Core.List.{List, [], _∷_, _++_, append-nil, append-assoc}
 use Prim.Native.Nat.{ℕ, zero, suc, _+_, _-_, _*_, _≤_, _<_}
 use native.Mathlib.Omega.{arith}
-use lib.ListN.{length, take, drop, length-append}
+use lib.ListN.{length, take, drop, length-append, take-append-drop}
 use lib.Seq.{take-at, drop-at, drop-drop, length-take-le}
 use Rattle.model.specs.Registers.{Machine}
 use Rattle.model.specs.Questions.{start-questions}
@@ -14,8 +14,8 @@ use Rattle.model.specs.Words.{Pointer}
 use Rattle.model.specs.Run as Run
 use Rattle.model.specs.Run.{ran, run-on, run-from, trace-from, spent, halted, fault, refused}
 use Rattle.model.specs.Answers.{reply-numbers, numbers}
-use Rattle.model.specs.Listing.{step-line, step-lines, last-line}
-use Rattle.model.proofs.RunLaws.{Next, next, next-faults, next-halts, next-completes, run-faults, run-halts, run-completes, trace-faults, trace-halts, trace-completes}
+use Rattle.model.specs.Listing.{step-line, step-lines, last-line, listing}
+use Rattle.model.proofs.RunLaws.{run-goes, trace-goes, Next, next, next-faults, next-halts, next-completes, run-faults, run-halts, run-completes, trace-faults, trace-halts, trace-completes}
 use Rattle.words.specs.View.{as-pointer, Pointer-within}
 use Rattle.processor.proofs.RunLaws.{passing-ring, passing-segment}
 use Rattle.words.specs.declared.pointer.Pointer as Core
@@ -134,6 +134,7 @@ module _ (m : Machine) (c a : ℕ) (t u : List ℕ) (x : Core) (prs memory : Lis
           size-same = put-length a r _ t u p q fits;
           fits = fits;
           grows = omega arith;
+          near = omega arith;
           short = λ _. h;
           passes = passes;
         }
@@ -159,6 +160,7 @@ module _ (m : Machine) (c a : ℕ) (t u : List ℕ) (x : Core) (prs memory : Lis
             size-same = put-length a r w t u p q fits;
             fits = fits;
             grows = omega arith;
+            near = omega arith;
             short = λ g. absurd (true≢false g);
             passes = passes;
           }
@@ -216,6 +218,7 @@ module _ (m₀ : Machine) (c₀ b : ℕ) (t₀ : List ℕ) (x : Line) (c : ℕ) 
         rest-same = rest;
         size-same = size;
         fits = omega arith;
+        short = omega arith;
         count-within = within;
         passes = passes;
         has-room = λ h. absurd (short h);
@@ -241,6 +244,7 @@ module _ (m₀ : Machine) (c₀ b : ℕ) (t₀ : List ℕ) (x : Line) (c : ℕ) 
         rest-same = put-drop (x .length) r _ t u p q here ∙ drop-further (x .length) r t t₀ (omega arith) rest;
         size-same = put-length (x .length) r _ t u p q here ∙ size;
         fits = omega arith;
+        short = omega arith;
         count-within = within;
         passes = passes;
         has-room = λ _. refl;
@@ -274,6 +278,7 @@ module _ (m₀ : Machine) (c₀ b : ℕ) (t₀ : List ℕ) (x : Line) (c : ℕ) 
           rest-same = next-rest;
           size-same = next-size;
           fits = omega (arith, w .fits);
+          short = omega (arith, w .near);
           count-within = within;
           passes = w .passes;
           has-room = λ _. f;
@@ -284,3 +289,26 @@ module _ (m₀ : Machine) (c₀ b : ℕ) (t₀ : List ℕ) (x : Line) (c : ℕ) 
         ap (λ n. take (y .length) u ++ text-from (b - n) n k) (let q : c + 1 ≡ suc c = omega arith in q) ∙ sym (w .goes-on f (b - suc c)) ∙ one-more
 
 pub ruleset lines-of-a-run = (first-lines, lines-full, lines-full-at-last, lines-spent, lines-last, next-rest, next-size, next-fits, next-passes, next-lines)
+
+-- THE WHOLE LISTING, where there is room for it
+module _ (b : ℕ) (m : Machine) (t u : List ℕ) (y : Listed) (k : Machine) (w : Lines-written m 0 b t y k u) (h : 64 * (b + 1) ≤ length t)
+    (passes : start-questions m ≡ 0) where
+  from-the-start : text-from (b - 0) 0 m ≡ listing b m
+  unfolding text-from listing
+  from-the-start =
+      ap (λ n. text-from n 0 m) (let e : b - 0 ≡ b = omega arith in e)
+      ∙ ap₂ (λ ps (r : Run.Ran). step-lines 0 ps ++ last-line (r .reply)) (sym (trace-goes b m passes)) (sym (run-goes b m passes))
+
+  written : take (y .line .length) u ≡ listing b m
+  written = w .ends (w .has-room (let e : 64 * (b - 0 + 1) ≤ length t = omega arith in e)) ∙ from-the-start
+
+  pub whole-size : y .line .length ≡ length (listing b m)
+  whole-size = sym (length-take-le (y .line .length) u (omega (arith, w .fits, w .size-same))) ∙ ap length written
+
+  pub whole-text : u ≡ listing b m ++ drop (length (listing b m)) t
+  whole-text = sym (take-append-drop (y .line .length) u) ∙ ap₂ _++_ written (w .rest-same ∙ ap (λ n. drop n t) whole-size)
+
+  pub whole-short : y .line .length ≤ 64 * (b + 1)
+  whole-short = omega (arith, w .short)
+
+pub ruleset whole-listings = (whole-size, whole-text, whole-short)

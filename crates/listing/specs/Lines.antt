@@ -7,7 +7,7 @@ use lib.ListN.{length, take, drop}
 use Rattle.model.specs.Registers.{Machine}
 use Rattle.model.specs.Questions.{start-questions}
 use Rattle.model.specs.Run.{run-from, trace-from}
-use Rattle.model.specs.Listing.{step-lines, last-line}
+use Rattle.model.specs.Listing.{step-lines, last-line, listing}
 use Rattle.listing.specs.declared.list.Line.{Line}
 use Rattle.listing.specs.declared.list.Listed.{Listed}
 
@@ -23,6 +23,7 @@ pub record Line-written (m : Machine) (count at : ℕ) (text : List ℕ) (x : Li
   pub size-same : length text-now ≡ length text
   pub fits : x .length ≤ length text
   pub grows : at ≤ x .length
+  pub near : x .length ≤ at + 128
   pub short : x .«is_last» ≡ false → x .length ≤ at + 64
   pub passes : start-questions m-now ≡ 0
 
@@ -33,6 +34,13 @@ pub record Lines-written (m : Machine) (count budget : ℕ) (text : List ℕ) (x
   pub rest-same : drop (x .line .length) text-now ≡ drop (x .line .length) text
   pub size-same : length text-now ≡ length text
   pub fits : x .line .length ≤ length text
+  pub short : x .line .length ≤ 64 * (budget - count + 1)
   pub count-within : x .count ≤ budget
   pub passes : start-questions m-now ≡ 0
   pub has-room : 64 * (budget - count + 1) ≤ length text → x .line .«is_last» ≡ true
+
+-- the definition's listing at the text's start; bytes after it stay
+pub record Whole-listing (budget : ℕ) (m : Machine) (text : List ℕ) (r : ℕ) (text-now : List ℕ) : Type 0 where
+  pub size : r ≡ length (listing budget m)
+  pub text-same : text-now ≡ listing budget m ++ drop (length (listing budget m)) text
+  pub short : r ≤ 64 * (budget + 1)

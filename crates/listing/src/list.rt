@@ -1,7 +1,7 @@
 // A listing, as many lines at a time as a text has room for.
 ghost use mathlib.Core.Path.{_≡_};
 ghost use mathlib.Core.List.{_++_};
-ghost use Prim.Native.Nat.{_+_, _≤_, _<_};
+ghost use Prim.Native.Nat.{_+_, _*_, _≤_, _<_};
 ghost use lib.ListN.{length};
 ghost use Rattle.model.specs.Questions.{start-questions};
 ghost use Rattle.model.specs.Run.{halted};
@@ -10,7 +10,7 @@ ghost use Rattle.words.specs.Table.{Right-table};
 ghost use Rattle.words.specs.View.{as-pointer, Pointer-within};
 ghost use Rattle.processor.specs.View.{as-machine};
 ghost use Rattle.listing.specs.Text.{Put};
-ghost use Rattle.listing.specs.Lines.{Line-written, Lines-written};
+ghost use Rattle.listing.specs.Lines.{Line-written, Lines-written, Whole-listing};
 use processor::run::Reply;
 use processor::state::Core;
 use words::pointer::Pointer;
@@ -122,4 +122,21 @@ pub fn list(
         line: x,
         count: done,
     }
+}
+
+// A whole listing, where the text has 64 bytes for each of its lines; how long it is.
+pub fn list_whole(
+    core: Core,
+    prs: [u64; 8],
+    memory: &mut [u64],
+    budget: u32,
+    text: &mut [u8],
+) -> usize
+    requires { ⌜ (start-questions (as-machine core prs (now memory)) ≡ 0) × (64 * (budget + 1) ≤ length (now text)) ⌝ }
+    ensures { λ r. ⌜ Whole-listing budget (as-machine core prs (now (memory .entry))) (now (text .entry)) r (now (text .exit)) ⌝ }
+{
+    let table = words::opcodes::table();
+    let mut own = prs;
+    let x = list(core, &mut own, memory, &table, 0, budget, text);
+    x.line.length
 }

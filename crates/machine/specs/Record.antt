@@ -4,16 +4,18 @@ use mathlib.Core.List.{List, map}
 use Prim.Native.Nat.{ℕ, _≤_}
 use Rattle.model.specs.Words as Words
 use Rattle.model.specs.Registers as Registers
+use Rattle.model.specs.Questions.{start-questions}
 use Rattle.model.specs.Run as Run
 use Rattle.words.specs.View.{as-pointer, Pointer-within}
 use Rattle.machine.specs.declared.record.Pointer.{Pointer}
 use Rattle.machine.specs.declared.record.Registers as Record
+use Rattle.machine.specs.declared.prepare.Prepared.{Prepared}
 use Rattle.machine.specs.declared.by_value.Ran.{Ran}
 use Rattle.machine.specs.declared.by_value.StepReply.{StepReply}
 use Rattle.machine.specs.declared.by_value.StepReply.the-variants as Code
 use Rattle.machine.specs.declared.by_value.Stepped.{Stepped}
 use Rattle.processor.specs.declared.state.Core.{Core}
-use Rattle.processor.specs.View.{registers-with}
+use Rattle.processor.specs.View.{registers-with, as-machine}
 use Rattle.processor.specs.Run.{as-reply, Reply-within}
 
 abbrev pub pointer-of : Pointer → Words.Pointer
@@ -69,3 +71,8 @@ pub record Stepped-by-value (y : Run.Stepped) (x : Stepped) (memory-now : List �
   pub pointer-within : Step-reply-within (x .reply)
   pub registers-same : registers-of (x .registers) ≡ y .machine .registers
   pub memory-same : memory-now ≡ y .machine .memory
+
+-- 1 to 4 of a machine, and where they pass the machine itself
+pub record Prepared-as (m : Registers.Machine) (x : Prepared) : Type 0 where
+  pub asked : x .number ≡ start-questions m
+  pub same : x .number ≡ 0 → as-machine (x .core) (x .prs) (m .memory) ≡ m

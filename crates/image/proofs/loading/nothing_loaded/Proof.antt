@@ -2,12 +2,12 @@
 use mathlib.Core.Path.{refl, _∙_, ap}
 use Prim.Native.Nat.{ℕ}
 use lib.ListN.{length, length-replicate}
-use Rattle.image.specs.View.{as-loading, Memory-within}
+use Rattle.image.specs.View.{as-loading, Memory-within, Starts}
 use Rattle.image.proofs.loading.nothing_loaded.Statement.{statement}
 use Rattle.image.proofs.loading.nothing_loaded.Tie as tie
 
 returns : tie.Need-returns
-unfolding as-loading Memory-within
+unfolding Starts as-loading Memory-within
 returns c = λ m z. (record { sized = ap length z ∙ length-replicate {A = ℕ} 8192 0; memory-within = z }, refl)
 
 pub nothing-loaded-spec : {M : Type 1} → statement M
