@@ -1,7 +1,8 @@
-/* The library's time against the plain C processor's, on four programs that loop until the budget is spent, and on
- * single steps. Both run in turn from the same start, the best time of each counts, and both must end alike. */
+/* The library's time against the plain C processor's, on four programs that loop until the budget is spent, on single
+ * steps, and on listings. Both run in turn from the same start, the best time of each counts, and both must end alike. */
 #define _POSIX_C_SOURCE 199309L
 
+#include "images.h"
 #include "kuzhlemor.h"
 #include "plain.h"
 #include "same.h"
@@ -179,6 +180,23 @@ static double timed(run_function *run, const machine *from, uint32_t steps, mach
     return time;
 }
 
+static void keep_least(double *best, double time)
+{
+    if (*best == 0 || time < *best)
+        *best = time;
+}
+
+static void print_row(const char *name, uint32_t steps, double plain, double library)
+{
+    printf("%-32s %12.2f %12.2f %16.2f\n", name, plain / steps, library / steps, library / plain);
+}
+
+static void differ(const char *name)
+{
+    fprintf(stderr, "bench: %s: the two ended differently, or before the budget was spent\n", name);
+    exit(1);
+}
+
 static void measure(const row *r)
 {
     machine from = r->make();
@@ -190,28 +208,51 @@ static void measure(const row *r)
         machine y;
         kuzhlemor_reply s;
         kuzhlemor_reply t;
-        double plain;
-        double library;
 
-        if (round % 2 == 0) {
-            plain = timed(r->plain, &from, r->steps, &x, &s);
-            library = timed(r->library, &from, r->steps, &y, &t);
-        } else {
-            library = timed(r->library, &from, r->steps, &y, &t);
-            plain = timed(r->plain, &from, r->steps, &x, &s);
-        }
+        keep_least(&best_plain, timed(r->plain, &from, r->steps, &x, &s));
+        keep_least(&best_library, timed(r->library, &from, r->steps, &y, &t));
         if (s.kind != KUZHLEMOR_SPENT || !same_reply(s, t) || !same_registers(&x.registers, &y.registers) ||
-            memcmp(x.memory, y.memory, sizeof x.memory) != 0) {
-            fprintf(stderr, "bench: %s: the two ended differently, or before the budget was spent\n", r->name);
-            exit(1);
-        }
-        if (round == 0 || plain < best_plain)
-            best_plain = plain;
-        if (round == 0 || library < best_library)
-            best_library = library;
+            memcmp(x.memory, y.memory, sizeof x.memory) != 0)
+            differ(r->name);
     }
-    printf("%-32s %12.2f %12.2f %16.2f\n", r->name, best_plain / r->steps, best_library / r->steps,
-           best_library / best_plain);
+    print_row(r->name, r->steps, best_plain, best_library);
+}
+
+typedef int64_t bench_function(const uint8_t *, size_t, uint8_t *, size_t);
+
+enum {
+    LISTED = 20000,
+    TEXT = 64 * (LISTED + 1)
+};
+
+static double timed_listing(bench_function *bench, const uint8_t *image, size_t length, uint8_t *text, int64_t *answer)
+{
+    double before = now();
+
+    *answer = bench(image, length, text, TEXT);
+    return now() - before;
+}
+
+static void measure_listing(const char *name, machine (*make)(void))
+{
+    static uint8_t image[IMAGE_ROOM(WORDS)];
+    static uint8_t x[TEXT];
+    static uint8_t y[TEXT];
+    machine from = make();
+    size_t length = put_image(image, &from.registers, from.memory, WORDS, LISTED);
+    double best_plain = 0;
+    double best_library = 0;
+
+    for (int round = 0; round < ROUNDS; round++) {
+        int64_t s;
+        int64_t t;
+
+        keep_least(&best_plain, timed_listing(plain_bench, image, length, x, &s));
+        keep_least(&best_library, timed_listing(kuzhlemor_bench, image, length, y, &t));
+        if (s <= 0 || s != t || memcmp(x, y, sizeof x) != 0)
+            differ(name);
+    }
+    print_row(name, LISTED, best_plain, best_library);
 }
 
 int main(void)
@@ -228,5 +269,8 @@ int main(void)
     printf("%-32s %12s %12s %16s\n", "program", "ns a step", "ns a step", "library/plain C");
     for (size_t k = 0; k < sizeof rows / sizeof rows[0]; k++)
         measure(&rows[k]);
+    measure_listing("arithmetic, listed", arithmetic);
+    measure_listing("loads and stores, listed", loads_and_stores);
+    measure_listing("calls and returns, listed", calls_and_returns);
     return 0;
 }

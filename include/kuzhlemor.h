@@ -1,5 +1,5 @@
 /* The ring processor as a C library: one step, or a run under a budget, over a register record and a memory that the
- * caller lends. Link with libkuzhlemor.a (x86-64, System V calling convention).
+ * caller lends; and a whole image run for its listing. Link with libkuzhlemor.a (x86-64, System V calling convention).
  *
  * The caller tests nothing first. Any values in the record and in memory, broken ones too, any number of words and any
  * budget get a defined reply. What the caller owes is the usual of C:
@@ -72,6 +72,20 @@ kuzhlemor_reply kuzhlemor_step(kuzhlemor_registers *registers, uint64_t *memory,
  * budget is halted. With a budget of 0 it asks 1 to 4 and answers refused or spent. A run that was spent goes on where
  * it stopped when record and memory are lent again as they were left. */
 kuzhlemor_reply kuzhlemor_run(kuzhlemor_registers *registers, uint64_t *memory, size_t words, uint32_t budget);
+
+/* Loads an image, runs it and writes its listing into text: a line for each completed step (its number, then IPR's ring,
+ * segment and word after it) and a last line (`spent COUNT`, `halted COUNT` or `fault NUMBER COUNT RING SEGMENT WORD`),
+ * each ended by a newline, with no zero byte after them. Answers the text's length, or a question's number negated:
+ *   -41  a record's mark is known, and the record is whole
+ *   -42  ME comes first and once, ST once and before RN, RN comes once and last
+ *   -43  ME says at most 8,192 words
+ *   -44  a WD's address is below ME's number
+ *   -1 to -4  as above, of what the image records
+ *   -45  text has 64 bytes for each line there may be: 64 * (budget + 1)
+ * Bytes of text after the listing, and on refusal all of them, keep what they held. image and text aren't null, not even
+ * when their lengths are 0, and don't overlap.
+ * The call takes about 66 KiB of stack, for the image's memory; kuzhlemor_step and kuzhlemor_run take less than 1 KiB. */
+int64_t kuzhlemor_bench(const uint8_t *image, size_t image_length, uint8_t *text, size_t text_length);
 
 /* The layout that the library was built for. */
 static_assert(sizeof(size_t) == 8, "64-bit lengths");

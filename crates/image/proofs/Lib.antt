@@ -5,3 +5,4 @@ pub mod RegisterLaws
 pub mod RecordLaws
 pub mod PartLaws
 pub mod LoadLaws
+pub mod PieceLaws

@@ -3,3 +3,4 @@ pub mod Mark
 pub mod View
 pub mod Record
 pub mod Load
+pub mod Piece

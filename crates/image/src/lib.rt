@@ -3,5 +3,6 @@ pub mod load;
 pub mod loading;
 pub mod mark;
 pub mod number;
+pub mod piece;
 pub mod record;
 pub mod registers;

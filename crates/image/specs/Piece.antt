@@ -1,0 +1,37 @@
+-- What loading a piece of an image says, with the bytes that it keeps. Assumes nothing: these are definitions.
+use mathlib.Core.Path.{_≡_}
+use mathlib.Core.Bool.{Bool, true, false}
+use mathlib.Core.List.{List, [], _++_}
+use Prim.Native.Nat.{ℕ, _-_, _≤_, _<_}
+use lib.ListN.{length, take, drop}
+use Rattle.model.specs.Image as Image
+use Rattle.image.specs.declared.loading.Loading.{Loading}
+use Rattle.image.specs.declared.load.LoadOutcome.{LoadOutcome}
+use Rattle.image.specs.declared.load.LoadOutcome.the-variants.{Refused, More, Ready}
+use Rattle.image.specs.declared.load.Loaded.{Loaded}
+use Rattle.image.specs.View.{as-loading, Loading-within}
+
+-- the bytes from a place up to another stand at the front
+pub record Kept-at-front (from end : ℕ) (buffer buffer-now : List ℕ) : Type 0 where
+  pub bytes-same : take (end - from) buffer-now ≡ drop from (take end buffer)
+  pub size-same : length buffer-now ≡ length buffer
+
+-- the image, by an outcome, what is loaded after it, the buffer and the bytes that come after what it keeps
+unfoldable pub piece-image : LoadOutcome → Image.Loading → (buffer rest : List ℕ) → Image.Image
+piece-image (Refused n) l buffer rest = Image.refused-image n
+piece-image (More kept) l buffer rest = Image.image-after l (take kept buffer ++ rest)
+piece-image (Ready budget) l buffer rest = Image.checked (Image.machine-of l) budget
+
+-- the outcome is right whatever comes after the piece, so that an image in pieces is loaded as it is whole; fewer than 61 bytes are kept
+unfoldable pub Piece-goes : (before : Image.Loading) → (piece : List ℕ) → (ended : Bool) → LoadOutcome → (after : Image.Loading) → (buffer : List ℕ) → Type 0
+Piece-goes l bs e o k buffer = (rest : List ℕ) → (e ≡ true → rest ≡ []) → Image.image-after l (bs ++ rest) ≡ piece-image o k buffer rest
+
+abbrev pub Piece-within : (ended : Bool) → Loading → LoadOutcome → Type 0
+Piece-within e l (Refused n) = 1 ≤ n
+Piece-within e l (More kept) = (e ≡ false) × (kept < 61)
+Piece-within e l (Ready budget) = (e ≡ true) × (l .«has_memory» ≡ true) × (l .«has_registers» ≡ true)
+
+pub record Piece-loaded (l : Loading) (m piece : List ℕ) (e : Bool) (x : Loaded) (m-now buffer-now : List ℕ) : Type 0 where
+  pub within : Loading-within (x .loading) m-now
+  pub goes : Piece-goes (as-loading l m) piece e (x .outcome) (as-loading (x .loading) m-now) buffer-now
+  pub outcome-within : Piece-within e (x .loading) (x .outcome)
