@@ -4,7 +4,7 @@ use mathlib.Core.Bool.{Bool, true}
 use mathlib.Core.List.{List, [], _++_, append-nil}
 use Prim.Native.Nat.{ℕ, _+_, _-_, _≤_, _<_}
 use native.Mathlib.Omega.{arith}
-use lib.ListN.{length, take, drop, length-drop}
+use lib.ListN.{length, take, drop, replicate, length-drop}
 use lib.Seq.{drop-drop, take-all}
 use Rattle.model.specs.Image as Image
 use Rattle.model.specs.Image.{image-after}
@@ -12,7 +12,7 @@ use Rattle.image.specs.declared.loading.Loading.{Loading}
 use Rattle.image.specs.declared.loading.Outcome.{Outcome}
 use Rattle.image.specs.declared.loading.Outcome.the-variants.{Refused, Waits, Next, Ready}
 use Rattle.image.specs.declared.load.LoadOutcome.the-variants as Load
-use Rattle.image.specs.View.{as-loading, Loading-within}
+use Rattle.image.specs.View.{as-loading, Loading-within, Memory-within, Starts}
 use Rattle.image.specs.Record.{outcome-image, Goes, Outcome-within, Recorded-as}
 use Rattle.image.specs.Load.{Loaded-as}
 
@@ -82,5 +82,15 @@ module _ {l : Loading} {m bs : List ℕ} {e : Bool} {at : ℕ} {k : Loading} {m-
 pub image-loaded : (l : Image.Loading) (bs : List ℕ) (o : Outcome) (k : Image.Loading) → l ≡ Image.nothing-loaded → Goes l bs true o k → Image.image bs ≡ outcome-image o k bs []
 unfolding Goes Image.image
 image-loaded l bs o k e h = sym (ap₂ image-after e (append-nil bs)) ∙ h [] (λ _. refl)
+
+-- 8,192 zeros may be lent before the first record
+pub may-load : (l : Loading) (m : List ℕ) → Starts l → m ≡ replicate 8192 0 → Loading-within l m
+unfolding Starts
+may-load l m s z = s m z .0
+
+-- once ME has come, the image's memory is the front of what is lent
+pub words-within : (l : Loading) (m : List ℕ) → Loading-within l m → l .«has_memory» ≡ true → l .words ≤ length m
+unfolding Memory-within
+words-within l m w h = let q = rw h at w .memory-within in omega (arith, w .sized)
 
 pub ruleset loads = (no-record-yet, last-refused, last-waits, last-ready, one-more)

@@ -14,6 +14,7 @@ use Rattle.image.specs.declared.load.Loaded.{Loaded}
 use Rattle.image.specs.View.{as-loading, Loading-within}
 use Rattle.image.specs.Record.{Goes, outcome-image}
 use Rattle.image.specs.Load.{as-outcome, Load-outcome-within, Loaded-as}
+use Rattle.image.proofs.LoadLaws.{words-within}
 use Rattle.image.specs.Piece.{Kept-at-front, piece-image, Piece-goes, Piece-within, Piece-loaded}
 
 -- BYTES MOVED: those before i stand at the front, and from i on nothing has changed
@@ -103,3 +104,16 @@ module _ (l : Loading) (m t : List ℕ) (n : ℕ) (e : Bool) (x : Loaded) (m-now
       rest = subst (Load-outcome-within (take n t) e (x .loading)) o (w .outcome-within)
 
 pub ruleset pieces = (part-size, used-within, piece-refused, piece-ready, piece-kept)
+
+-- WHAT A READER OF PIECES NEEDS of one
+module _ (l : Loading) (m piece : List ℕ) (e : Bool) (x : Loaded) (m-now u : List ℕ) (w : Piece-loaded l m piece e x m-now u) where
+  pub piece-within : Loading-within (x .loading) m-now
+  piece-within = w .within
+
+  pub kept-few : (n : ℕ) → x .outcome ≡ More n → n < 61
+  kept-few n o = subst (Piece-within e (x .loading)) o (w .outcome-within) .1
+
+  pub piece-words : (b : ℕ) → x .outcome ≡ Ready b → x .loading .words ≤ length m-now
+  piece-words b o = words-within (x .loading) m-now (w .within) (subst (Piece-within e (x .loading)) o (w .outcome-within) .1)
+
+pub ruleset read-pieces = (piece-within, kept-few, piece-words)

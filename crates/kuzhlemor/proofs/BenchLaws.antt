@@ -23,14 +23,15 @@ use Rattle.model.specs.Bench.{negated, bench-refused, bench-listed, bench-on, b
 use Rattle.processor.specs.View.{as-machine}
 use Rattle.machine.specs.declared.prepare.Prepared.{Prepared}
 use Rattle.machine.specs.Record.{registers-of, Prepared-as}
+use Rattle.machine.proofs.PrepareLaws.{prepared-passes}
 use Rattle.listing.specs.Lines.{Whole-listing}
 use Rattle.image.specs.declared.loading.Loading.{Loading}
 use Rattle.image.specs.declared.load.Loaded.{Loaded}
 use Rattle.image.specs.declared.load.LoadOutcome.the-variants.{Refused, More, Ready}
-use Rattle.image.specs.View.{as-loading, Loading-within, Memory-within, Starts}
+use Rattle.image.specs.View.{as-loading, Starts}
 use Rattle.image.specs.Record.{outcome-image}
 use Rattle.image.specs.Load.{as-outcome, Loaded-as}
-use Rattle.image.proofs.LoadLaws.{image-loaded}
+use Rattle.image.proofs.LoadLaws.{image-loaded, may-load, words-within}
 use Rattle.kuzhlemor.specs.declared.bench.Benched.{Benched}
 use Rattle.kuzhlemor.specs.Bench.{as-answer, Benched-as}
 
@@ -110,9 +111,6 @@ module _ (b : ℕ) (t : List ℕ) (q : Registers) (v : List ℕ) (x : Prepared) 
         refuses _ 45 t
         (on-passed b t (record { registers = q; memory = v }) (x .number) (p .asked) z ∙ on-45 b t (record { registers = q; memory = v }) h) (λ e. omega arith)
 
-    pub prepared-passes : start-questions (as-machine (x .core) (x .prs) v) ≡ 0
-    prepared-passes = ap start-questions (p .same z) ∙ sym (p .asked) ∙ z
-
     pub lists : (r : ℕ) (u : List ℕ) → Whole-listing b (as-machine (x .core) (x .prs) v) t r u → 64 * (b + 1) ≤ length t → b < 4294967296 →
         Benched-as (bench-on (checked (record { registers = q; memory = v }) b) t) (record { number = 0; length = r }) u
     unfolding as-answer bench-listed
@@ -131,10 +129,6 @@ module _ (b : ℕ) (t : List ℕ) (q : Registers) (v : List ℕ) (x : Prepared) 
 pub ruleset answers = (not-prepared, no-room, prepared-passes, lists)
 
 -- A WHOLE IMAGE, loaded
-pub may-load : (l : Loading) (v : List ℕ) → Starts l → v ≡ replicate 8192 0 → Loading-within l v
-unfolding Starts
-may-load l v s z = s v z .0
-
 -- once RN has come, ME and ST have
 module _ (l : Loading) (v bs : List ℕ) (x : Loaded) (k : List ℕ) (w : Loaded-as l v bs true x k) (b : ℕ) (o : x .outcome ≡ Ready b) where
   ready-memory : x .loading .«has_memory» ≡ true
@@ -144,8 +138,7 @@ module _ (l : Loading) (v bs : List ℕ) (x : Loaded) (k : List ℕ) (w : Loaded
   ready-registers = (rw o at w .outcome-within) .2
 
   pub ready-words : x .loading .words ≤ length k
-  unfolding Memory-within
-  ready-words = let h = rw ready-memory at w .within .memory-within in omega (arith, w .within .sized)
+  ready-words = words-within (x .loading) k (w .within) ready-memory
 
   pub ready-part : x .loading .words ≡ length (take (x .loading .words) k)
   ready-part = sym (length-take-le (x .loading .words) k ready-words)

@@ -1,0 +1,67 @@
+-- `main` is safe and ends. Assumes nothing.
+use borrow.Author.Needs.{needs}
+use Rattle.image.proofs.PieceLaws.{part-size}
+use Rattle.simulate.proofs.ReadLaws.{ready-words}
+use Rattle.simulate.proofs.main.Statement.{statement}
+use Rattle.simulate.proofs.main.Tie as tie
+
+empty-memory-requires : tie.Need-empty-memory-requires
+empty-memory-requires c κs = search needs
+
+slice-aggregate-read-image : tie.Need-slice-aggregate-read-image
+slice-aggregate-read-image c = search needs
+
+read-image-requires : tie.Need-read-image-requires
+read-image-requires c κs = search needs
+
+enum-known-outcome : tie.Need-enum-known-outcome
+enum-known-outcome c = search needs
+
+print-refusal-requires : tie.Need-print-refusal-requires
+print-refusal-requires c κs = search needs
+
+enum-known-outcome-2 : tie.Need-enum-known-outcome-2
+enum-known-outcome-2 c = search needs
+
+enum-known-outcome-3 : tie.Need-enum-known-outcome-3
+enum-known-outcome-3 c = search needs
+
+cast-words : tie.Need-cast-words
+cast-words c = search needs
+
+array-borrow-prefix-memory : tie.Need-array-borrow-prefix-memory
+array-borrow-prefix-memory c = search (needs, part-size, ready-words)
+
+slice-aggregate-run-image : tie.Need-slice-aggregate-run-image
+slice-aggregate-run-image c = search (needs, part-size, ready-words)
+
+run-image-requires : tie.Need-run-image-requires
+run-image-requires c κs = search needs
+
+returns : tie.Need-returns
+returns c = search needs
+
+returns-2 : tie.Need-returns-2
+returns-2 c = search needs
+
+returns-3 : tie.Need-returns-3
+returns-3 c = search needs
+
+pub main-spec : {M : Type 1} → statement M
+main-spec =
+    tie.close
+    (tie.spec
+    empty-memory-requires
+    slice-aggregate-read-image
+    read-image-requires
+    enum-known-outcome
+    print-refusal-requires
+    enum-known-outcome-2
+    enum-known-outcome-3
+    cast-words
+    array-borrow-prefix-memory
+    slice-aggregate-run-image
+    run-image-requires
+    returns
+    returns-2
+    returns-3)

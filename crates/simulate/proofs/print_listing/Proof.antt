@@ -1,0 +1,92 @@
+-- `print_listing` meets its contract. Assumes nothing.
+use mathlib.Core.Path.{_≡_}
+use Prim.Native.Nat.{_≤_}
+use lib.ListN.{length}
+use Rattle.model.specs.Questions.{start-questions}
+use Rattle.processor.specs.View.{as-machine}
+use borrow.Author.Needs.{needs}
+use Rattle.simulate.proofs.PrintLaws.{prints}
+use Rattle.simulate.proofs.print_listing.Statement.{statement}
+use Rattle.simulate.proofs.print_listing.Tie as tie
+
+abbrev Inv-loop : tie.InvT-loop
+Inv-loop memory₀ budget text₀ prs₀ table x₀ turns₀ memory text prs x turns =
+    (65536 ≡ length text) × (x .count ≤ budget) × (length memory ≡ length memory₀) × (start-questions (as-machine (x .line .core) prs memory) ≡ 0)
+
+abbrev μ-loop : tie.MeasureT-loop
+μ-loop memory₀ budget text₀ prs₀ table x₀ turns₀ memory text prs x turns = turns
+
+large-buffer-requires : tie.Need-large-buffer-requires Inv-loop μ-loop
+large-buffer-requires c κs = search (needs, prints)
+
+table-requires : tie.Need-table-requires Inv-loop μ-loop
+table-requires c κs = search (needs, prints)
+
+loop-holds : tie.Need-loop-holds Inv-loop μ-loop
+loop-holds c = search (needs, prints)
+
+slice-aggregate-list : tie.Need-slice-aggregate-list Inv-loop μ-loop
+slice-aggregate-list c = search (needs, prints)
+
+list-requires : tie.Need-list-requires Inv-loop μ-loop
+list-requires c κs = search (needs, prints)
+
+array-share-prefix-text : tie.Need-array-share-prefix-text Inv-loop μ-loop
+array-share-prefix-text c = search (needs, prints)
+
+slice-aggregate-write-all : tie.Need-slice-aggregate-write-all Inv-loop μ-loop
+slice-aggregate-write-all c = search (needs, prints)
+
+write-all-requires : tie.Need-write-all-requires Inv-loop μ-loop
+write-all-requires c κs = search (needs, prints)
+
+same-length : tie.Need-same-length Inv-loop μ-loop
+same-length c = search (needs, prints)
+
+returns : tie.Need-returns Inv-loop μ-loop
+returns c = search (needs, prints)
+
+same-length-2 : tie.Need-same-length-2 Inv-loop μ-loop
+same-length-2 c = search (needs, prints)
+
+returns-2 : tie.Need-returns-2 Inv-loop μ-loop
+returns-2 c = search (needs, prints)
+
+sub-turns : tie.Need-sub-turns Inv-loop μ-loop
+sub-turns c = search (needs, prints)
+
+loop-less : tie.Need-loop-less Inv-loop μ-loop
+loop-less c = search (needs, prints)
+
+loop-again : tie.Need-loop-again Inv-loop μ-loop
+loop-again c = search (needs, prints)
+
+same-length-3 : tie.Need-same-length-3 Inv-loop μ-loop
+same-length-3 c = search (needs, prints)
+
+returns-3 : tie.Need-returns-3 Inv-loop μ-loop
+returns-3 c = search (needs, prints)
+
+pub print-listing-spec : {M : Type 1} → statement M
+print-listing-spec =
+    tie.close
+    (tie.spec
+    Inv-loop
+    μ-loop
+    large-buffer-requires
+    table-requires
+    loop-holds
+    slice-aggregate-list
+    list-requires
+    array-share-prefix-text
+    slice-aggregate-write-all
+    write-all-requires
+    same-length
+    returns
+    same-length-2
+    returns-2
+    sub-turns
+    loop-less
+    loop-again
+    same-length-3
+    returns-3)

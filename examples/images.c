@@ -1,0 +1,145 @@
+/* Writes the images of this folder: what a laboratory might load, good and bad. Given a folder, it writes them there. */
+#include "images.h"
+#include "words.h"
+
+#include <stdio.h>
+#include <stdlib.h>
+
+enum {
+    WORDS = 64
+};
+
+typedef struct {
+    kuzhlemor_registers registers;
+    uint64_t memory[WORDS];
+} machine;
+
+static void write_image(const char *folder, const char *name, const uint8_t *image, size_t length)
+{
+    char path[4096];
+    FILE *file;
+
+    snprintf(path, sizeof path, "%s/%s.img", folder, name);
+    file = fopen(path, "wb");
+    if (file == NULL || fwrite(image, 1, length, file) != length || fclose(file) != 0) {
+        perror(path);
+        exit(1);
+    }
+}
+
+static void write_machine(const char *folder, const char *name, const machine *m, uint32_t budget)
+{
+    uint8_t image[IMAGE_ROOM(WORDS)];
+
+    write_image(folder, name, image, put_image(image, &m->registers, m->memory, WORDS, budget));
+}
+
+/* Document 01's case 12: a program reaches the formula's gate, which writes with the caller's pointer and faults. */
+static machine case_12(void)
+{
+    machine m = {.registers = {.dbr = {0, 6}, .ipr = pointer_to(4, 4, 0)}};
+
+    for (int k = 0; k < 8; k++)
+        m.registers.prs[k].ring = 4;
+    m.registers.prs[2] = pointer_to(4, 5, 0);
+    m.registers.prs[3] = pointer_to(4, 3, 0);
+    m.memory[3] = descriptor_word(32, 4, 1, 1, 1, R | W | V, 0);
+    m.memory[4] = descriptor_word(16, 8, 4, 4, 4, R | E | V, 0);
+    m.memory[5] = descriptor_word(24, 8, 1, 1, 5, R | E | V, 1);
+    m.memory[16] = near(LDI, 0) | lit(7);
+    m.memory[17] = by_pr(CALL, 2, 0);
+    m.memory[24] = by_pr(STA, 3, 0);
+    return m;
+}
+
+/* A bench: segment 0 ends the run, in ring 0; segment 1 is the formula, in ring 1; segments 4 and 5 are the laboratory's
+ * program and data, in ring 4. PR0, PR1 and PR2 point to the end, the data and the formula. */
+static machine bench(void)
+{
+    machine m = {.registers = {.dbr = {0, 6}, .ipr = pointer_to(4, 4, 0)}};
+
+    for (int k = 0; k < 8; k++)
+        m.registers.prs[k].ring = 4;
+    m.registers.prs[1] = pointer_to(4, 5, 0);
+    m.registers.prs[2] = pointer_to(4, 1, 0);
+    m.memory[0] = descriptor_word(8, 1, 0, 0, 5, E | V, 1);
+    m.memory[1] = descriptor_word(9, 3, 1, 1, 5, R | E | V, 1);
+    m.memory[4] = descriptor_word(16, 8, 4, 4, 4, R | E | V, 0);
+    m.memory[5] = descriptor_word(24, 8, 4, 4, 4, R | W | V, 0);
+    m.memory[8] = near(HLT, 0);
+    m.memory[9] = near(LDA, 2);
+    m.memory[10] = by_pr(RETURN, 3, 0);
+    m.memory[11] = 250;
+    return m;
+}
+
+/* The formula's gate gives its dose in A and returns to PR3; the program stores it, counts it and ends the run. */
+static machine blend(void)
+{
+    machine m = bench();
+
+    m.memory[16] = near(EAP, 2) | reg(3);
+    m.memory[17] = by_pr(CALL, 2, 0);
+    m.memory[18] = by_pr(STA, 1, 0);
+    m.memory[19] = by_pr(AOS, 1, 1);
+    m.memory[20] = by_pr(CALL, 0, 0);
+    return m;
+}
+
+/* Reads the formula's word itself. */
+static machine reads_the_formula(void)
+{
+    machine m = bench();
+
+    m.memory[16] = by_pr(LDA, 2, 2);
+    m.memory[17] = by_pr(STA, 1, 0);
+    return m;
+}
+
+/* A pointer word that points to itself. */
+static machine endless_pointer(void)
+{
+    machine m = bench();
+
+    m.memory[16] = near(LDI, 0) | lit(1);
+    m.memory[17] = by_pr(LDA, 1, 0) | I_ON;
+    m.memory[24] = pointer_word(pointer_to(4, 5, 0)) | POINTER_I_ON;
+    return m;
+}
+
+/* A PR of a lower ring than IPR's. */
+static machine low_pr(void)
+{
+    machine m = blend();
+
+    m.registers.prs[5].ring = 2;
+    return m;
+}
+
+int main(int argc, char **argv)
+{
+    static const struct {
+        const char *name;
+        machine (*make)(void);
+        uint32_t budget;
+    } images[] = {
+        {"case-12", case_12, 9},
+        {"blend", blend, 100},
+        {"blend-cut-short", blend, 4},
+        {"reads-the-formula", reads_the_formula, 100},
+        {"endless-pointer", endless_pointer, 100},
+        {"low-pr", low_pr, 100},
+    };
+    const char *folder = argc > 1 ? argv[1] : ".";
+    machine m = blend();
+    uint8_t image[IMAGE_ROOM(WORDS)];
+    size_t length = put_image(image, &m.registers, m.memory, WORDS, 100);
+
+    for (size_t k = 0; k < sizeof images / sizeof images[0]; k++) {
+        m = images[k].make();
+        write_machine(folder, images[k].name, &m, images[k].budget);
+    }
+    /* A file that was cut off before RN. */
+    write_image(folder, "without-rn", image, length - 6);
+    return 0;
+}
