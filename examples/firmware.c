@@ -1,0 +1,129 @@
+/* A small dosing bench: it keeps the registers and memory of a program, runs it a step at a time and as a whole, and prints
+ * the listing of an image. Build it with gcc and link libkuzhlemor.a. */
+#include "kuzhlemor.h"
+
+#include <stdbool.h>
+#include <stdio.h>
+#include <string.h>
+
+enum {
+    WORDS = 8192,
+    BUDGET = 1000,
+    TEXT = 64 * (BUDGET + 1)
+};
+
+typedef struct {
+    kuzhlemor_registers registers;
+    uint64_t memory[WORDS];
+    size_t words;
+    uint32_t budget;
+} machine;
+
+static uint64_t number(const uint8_t *bytes, size_t count)
+{
+    uint64_t value = 0;
+
+    for (size_t k = 0; k < count; k++)
+        value = value << 8 | bytes[k];
+    return value;
+}
+
+static kuzhlemor_pointer pointer(const uint8_t *bytes)
+{
+    return (kuzhlemor_pointer){bytes[0], (uint16_t)number(bytes + 1, 2), (uint16_t)number(bytes + 3, 2)};
+}
+
+/* Takes the records of an image that kuzhlemor_bench has accepted into a machine of the bench's own. */
+static void take(const uint8_t *image, machine *m)
+{
+    memset(m, 0, sizeof *m);
+    for (;;) {
+        const uint8_t *at = image + 2;
+
+        if (memcmp(image, "ME", 2) == 0) {
+            m->words = number(at, 4);
+            image += 6;
+        } else if (memcmp(image, "ST", 2) == 0) {
+            m->registers.a = number(at, 8);
+            m->registers.dbr = (kuzhlemor_dbr){(uint32_t)number(at + 8, 4), (uint16_t)number(at + 12, 2)};
+            m->registers.ipr = pointer(at + 14);
+            for (size_t k = 0; k < 8; k++)
+                m->registers.prs[k] = pointer(at + 19 + 5 * k);
+            image += 61;
+        } else if (memcmp(image, "WD", 2) == 0) {
+            m->memory[number(at, 4)] = number(at + 4, 8);
+            image += 14;
+        } else {
+            m->budget = (uint32_t)number(at, 4);
+            return;
+        }
+    }
+}
+
+static void print_reply(const char *name, kuzhlemor_reply r)
+{
+    static const char *const kinds[] = {"refused", "spent", "halted", "fault"};
+
+    printf("%s: %s, %u steps", name, kinds[r.kind], (unsigned)r.count);
+    if (r.kind == KUZHLEMOR_REFUSED || r.kind == KUZHLEMOR_FAULT)
+        printf(", question %u", (unsigned)r.number);
+    if (r.kind == KUZHLEMOR_FAULT)
+        printf(" at ring %u, segment %u, word %u", r.pointer.ring, r.pointer.segment, r.pointer.word);
+    printf("\n");
+}
+
+/* The main loop of a bench that looks at the registers after each step. The caller tests nothing first. */
+static void run_by_steps(machine *m)
+{
+    kuzhlemor_reply reply = {.kind = KUZHLEMOR_SPENT};
+    uint32_t count = 0;
+
+    while (count < m->budget && reply.kind == KUZHLEMOR_SPENT) {
+        reply = kuzhlemor_step(&m->registers, m->memory, m->words);
+        count += reply.count;
+    }
+    reply.count = count;
+    print_reply("by steps", reply);
+}
+
+static bool same_machine(const machine *x, const machine *y)
+{
+    return x->registers.a == y->registers.a && x->registers.ipr.ring == y->registers.ipr.ring &&
+           x->registers.ipr.segment == y->registers.ipr.segment && x->registers.ipr.word == y->registers.ipr.word &&
+           memcmp(x->memory, y->memory, sizeof x->memory) == 0;
+}
+
+int main(int argc, char **argv)
+{
+    static uint8_t image[1 << 20];
+    static uint8_t text[TEXT];
+    static machine x;
+    static machine y;
+    FILE *file = argc == 2 ? fopen(argv[1], "rb") : NULL;
+    size_t length;
+    int64_t answer;
+
+    if (file == NULL) {
+        fprintf(stderr, "usage: firmware IMAGE\n");
+        return 2;
+    }
+    length = fread(image, 1, sizeof image, file);
+    fclose(file);
+
+    answer = kuzhlemor_bench(image, length, text, sizeof text);
+    if (answer < 0) {
+        printf("question %d\n", (int)-answer);
+        return 0;
+    }
+    fwrite(text, 1, (size_t)answer, stdout);
+
+    take(image, &x);
+    take(image, &y);
+    run_by_steps(&x);
+    print_reply("as a run", kuzhlemor_run(&y.registers, y.memory, y.words, y.budget));
+    if (!same_machine(&x, &y)) {
+        printf("steps and run differ\n");
+        return 1;
+    }
+    return 0;
+}

@@ -1,0 +1,160 @@
+//! One machine, or one image, through both implementations.
+
+use crate::library::{Answer, Lent};
+use crate::reach::Reach;
+use second::{Instruction, Registers, Reply};
+
+/// What a call is handed.
+#[derive(Clone, Debug, Default, PartialEq, Eq)]
+pub struct Machine {
+    pub registers: Registers,
+    pub memory: Vec<u64>,
+    pub budget: u32,
+}
+
+/// The first thing that differs.
+#[derive(Clone, Debug)]
+pub struct Difference(pub String);
+
+pub struct Comparer {
+    pub reach: Reach,
+    pub machines: u64,
+    pub images: u64,
+    mine: Vec<u64>,
+    after_run: Vec<u64>,
+    lent: Lent,
+    padding: u8,
+    image: Vec<u8>,
+    texts: [Vec<u8>; 2],
+}
+
+impl Comparer {
+    pub fn new() -> Comparer {
+        Comparer {
+            reach: Reach::new(),
+            machines: 0,
+            images: 0,
+            mine: Vec::new(),
+            after_run: Vec::new(),
+            lent: Lent::new(),
+            padding: 0,
+            image: Vec::new(),
+            texts: [Vec::new(), Vec::new()],
+        }
+    }
+
+    /// A run with the budget, and then the same steps one by one: reply, registers, every word of memory. Answers the
+    /// run's reply.
+    pub fn machine(&mut self, machine: &Machine) -> Result<Reply, Difference> {
+        self.machines += 1;
+        self.padding = self.padding.wrapping_add(41);
+
+        // The runs.
+        let mut registers = machine.registers;
+        self.mine.clear();
+        self.mine.extend_from_slice(&machine.memory);
+        self.lent.set(&machine.registers, &machine.memory, self.padding);
+        let run_reply = second::run(&mut registers, &mut self.mine, machine.budget);
+        let answer = self.lent.run(machine.budget);
+        self.agree("kuzhlemor_run", run_reply, answer, &registers)?;
+        let run_registers = registers;
+        std::mem::swap(&mut self.mine, &mut self.after_run);
+
+        // The steps.
+        let mut registers = machine.registers;
+        self.mine.clear();
+        self.mine.extend_from_slice(&machine.memory);
+        self.lent.set(&machine.registers, &machine.memory, self.padding);
+        let mut reply = match run_reply {
+            Reply::Refused { number } => Reply::Refused { number },
+            _ => Reply::Spent { count: 0 },
+        };
+        for count in 0..machine.budget {
+            let opcode = opcode_at_ipr(&registers, &self.mine);
+            let step_reply = second::step(&mut registers, &mut self.mine);
+            let answer = self.lent.step();
+            self.agree("kuzhlemor_step", step_reply, answer, &registers)
+                .map_err(|Difference(text)| Difference(format!("step {}: {text}", count + 1)))?;
+            self.reach.step(opcode, step_reply);
+            match step_reply {
+                Reply::Spent { .. } => reply = Reply::Spent { count: count + 1 },
+                Reply::Halted { .. } => reply = Reply::Halted { count: count + 1 },
+                Reply::Fault { fault, .. } => reply = Reply::Fault { fault, count },
+                Reply::Refused { number } => reply = Reply::Refused { number },
+            }
+            if answer.kind != Answer::SPENT {
+                break;
+            }
+        }
+        if reply != run_reply || registers != run_registers || self.mine != self.after_run {
+            return Err(Difference(format!("second's own steps and run: {reply:?} and {run_reply:?}")));
+        }
+        self.reach.run(run_reply);
+        if !matches!(run_reply, Reply::Refused { .. }) {
+            self.reach.changes(machine, &registers, &self.mine);
+        }
+        Ok(run_reply)
+    }
+
+    /// Is the library's state now the second implementation's?
+    fn agree(&self, call: &str, reply: Reply, answer: Answer, registers: &Registers) -> Result<(), Difference> {
+        let same = answer == Answer::of(reply)
+            && self.lent.registers() == *registers
+            && self.lent.memory() == self.mine
+            && self.lent.guards_stand();
+        if same {
+            return Ok(());
+        }
+        let mut text = format!("after {call}:");
+        if answer != Answer::of(reply) {
+            text += &format!("\n  reply: second {reply:?}\n         library {answer:?}");
+        }
+        if self.lent.registers() != *registers {
+            text += &format!("\n  registers: second {registers:?}\n             library {:?}", self.lent.registers());
+        }
+        for (address, (mine, theirs)) in self.mine.iter().zip(self.lent.memory()).enumerate() {
+            if mine != theirs {
+                text += &format!("\n  memory word {address}: second {mine:#018x}, library {theirs:#018x}");
+            }
+        }
+        if !self.lent.guards_stand() {
+            text += "\n  words outside of the memory lent were written";
+        }
+        Err(Difference(text))
+    }
+
+    /// The bench's call: the answer, and every byte of the buffer. `filler` is what the buffer holds before.
+    pub fn image(&mut self, image: &[u8], text_length: usize, filler: u8) -> Result<i64, Difference> {
+        self.images += 1;
+        // Bytes before and behind the buffer, which the library must leave alone; image and buffer start anywhere.
+        const BEHIND: usize = 64;
+        let start = usize::from(filler % 8);
+        self.image.clear();
+        self.image.resize(start, 0);
+        self.image.extend_from_slice(image);
+        let [mine, theirs] = &mut self.texts;
+        for text in [&mut *mine, &mut *theirs] {
+            text.clear();
+            text.resize(start + text_length + BEHIND, filler);
+        }
+        let my_answer = second::bench(image, &mut mine[start..start + text_length]);
+        let answer = crate::library::bench(&self.image[start..], &mut theirs[start..start + text_length]);
+        if my_answer == answer && mine == theirs {
+            self.reach.image(answer);
+            return Ok(answer);
+        }
+        let mut text = format!("kuzhlemor_bench with {text_length} bytes: second {my_answer}, library {answer}");
+        if let Some(first) = mine.iter().zip(&*theirs).position(|(mine, theirs)| mine != theirs) {
+            let part = |bytes: &[u8]| String::from_utf8_lossy(&bytes[..(first + 40).min(bytes.len())]).into_owned();
+            text += &format!("\n  the texts differ from byte {first} on");
+            text += &format!("\n  second:\n{}\n  library:\n{}", part(mine), part(theirs));
+        }
+        Err(Difference(text))
+    }
+}
+
+/// The opcode that a step will perform, if it gets that far.
+fn opcode_at_ipr(registers: &Registers, memory: &[u64]) -> Option<u8> {
+    second::machine::refusal(registers, memory.len()).ok()?;
+    second::machine::fetch(registers, memory).ok().map(|Instruction { opcode, .. }| opcode)
+}

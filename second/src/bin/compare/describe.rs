@@ -1,0 +1,129 @@
+//! A failing input: made smaller, written as an image, and in words.
+
+use crate::compare::Machine;
+use second::{Descriptor, Instruction, Pointer, Registers};
+
+/// RING 1, SEGNO 2, WORDNO 2.
+pub fn pointer_bytes(pointer: Pointer) -> [u8; 5] {
+    let [segno_high, segno_low] = pointer.segno.to_be_bytes();
+    let [wordno_high, wordno_low] = pointer.wordno.to_be_bytes();
+    [pointer.ring, segno_high, segno_low, wordno_high, wordno_low]
+}
+
+/// The ST record.
+pub fn st(registers: &Registers) -> Vec<u8> {
+    let mut record = b"ST".to_vec();
+    record.extend(registers.a.to_be_bytes());
+    record.extend(registers.dbr.address.to_be_bytes());
+    record.extend(registers.dbr.length.to_be_bytes());
+    record.extend(pointer_bytes(registers.ipr));
+    for pr in registers.pr {
+        record.extend(pointer_bytes(pr));
+    }
+    record
+}
+
+/// The machine as an image: ME, ST, the words that aren't zero, RN.
+pub fn image(machine: &Machine) -> Vec<u8> {
+    let mut image = b"ME".to_vec();
+    image.extend((machine.memory.len() as u32).to_be_bytes());
+    image.extend(st(&machine.registers));
+    for (address, word) in machine.memory.iter().enumerate() {
+        if *word != 0 {
+            image.extend(b"WD");
+            image.extend((address as u32).to_be_bytes());
+            image.extend(word.to_be_bytes());
+        }
+    }
+    image.extend(b"RN");
+    image.extend(machine.budget.to_be_bytes());
+    image
+}
+
+/// The machine in words.
+pub fn describe(machine: &Machine) -> String {
+    let Registers { a, dbr, ipr, pr } = machine.registers;
+    let pointer = |pointer: Pointer| format!("ring {} segment {} word {}", pointer.ring, pointer.segno, pointer.wordno);
+    let mut text = format!(
+        "{} words of memory, budget {}\nA {a:#x}\nDBR {} and {}\nIPR {}\n",
+        machine.memory.len(),
+        machine.budget,
+        dbr.address,
+        dbr.length,
+        pointer(ipr)
+    );
+    if machine.memory.len() > 8192 {
+        text += "(an image can't have this much memory: 43)\n";
+    }
+    for (number, pr) in pr.into_iter().enumerate() {
+        text += &format!("PR{number} {}\n", pointer(pr));
+    }
+    let table = dbr.address as usize..dbr.address as usize + usize::from(dbr.length);
+    for (address, word) in machine.memory.iter().enumerate().filter(|(_, word)| **word != 0) {
+        text += &format!("word {address}: {word:#018x}");
+        if table.contains(&address) {
+            text += &format!(" segment {}: {:?}", address - table.start, Descriptor::from_word(*word));
+        } else {
+            text += &format!(" {:?}", Instruction::from_word(*word));
+        }
+        text += "\n";
+    }
+    text
+}
+
+/// Makes a failing machine smaller while it still fails.
+pub fn shrink(mut machine: Machine, fails: &mut dyn FnMut(&Machine) -> bool) -> Machine {
+    let mut attempt = |machine: &mut Machine, change: &dyn Fn(&mut Machine)| {
+        let mut changed = machine.clone();
+        change(&mut changed);
+        let is_smaller = changed != *machine && fails(&changed);
+        if is_smaller {
+            *machine = changed;
+        }
+        is_smaller
+    };
+    // The shortest budget; then from the state just before, one step.
+    let mut less = machine.budget / 2;
+    while less > 0 {
+        while machine.budget >= less && attempt(&mut machine, &|m| m.budget -= less) {}
+        less /= 2;
+    }
+    attempt(&mut machine, &|m| m.budget = m.budget.saturating_sub(1));
+    if machine.budget > 1 {
+        attempt(&mut machine, &|m| {
+            second::run(&mut m.registers, &mut m.memory, m.budget - 1);
+            m.budget = 1;
+        });
+    }
+    // Fewer words.
+    let mut less = machine.memory.len() / 2;
+    while less > 0 {
+        while machine.memory.len() >= less && attempt(&mut machine, &|m| m.memory.truncate(m.memory.len() - less)) {}
+        less /= 2;
+    }
+    loop {
+        let mut is_smaller = false;
+        let used: Vec<usize> = (0..machine.memory.len()).filter(|address| machine.memory[*address] != 0).collect();
+        for address in used.into_iter().take(20_000) {
+            if attempt(&mut machine, &|m| m.memory[address] = 0) {
+                is_smaller = true;
+                continue;
+            }
+            for bit in 0..64 {
+                is_smaller |= attempt(&mut machine, &|m| m.memory[address] &= !(1 << bit));
+            }
+        }
+        is_smaller |= attempt(&mut machine, &|m| m.registers.a = 0);
+        is_smaller |= attempt(&mut machine, &|m| m.registers.dbr.address = 0);
+        for pr in 0..8 {
+            is_smaller |= attempt(&mut machine, &|m| {
+                m.registers.pr[pr] = Pointer { ring: m.registers.ipr.ring, ..Pointer::default() }
+            });
+            is_smaller |= attempt(&mut machine, &|m| m.registers.pr[pr].wordno = 0);
+            is_smaller |= attempt(&mut machine, &|m| m.registers.pr[pr].segno = 0);
+        }
+        if !is_smaller {
+            return machine;
+        }
+    }
+}

@@ -1,0 +1,386 @@
+//! Structured random machines: mostly valid descriptors, and code that is drawn while it runs, so that runs are long.
+
+use crate::compare::Machine;
+use crate::random::Random;
+use second::{Dbr, Descriptor, Instruction, Opcode, Pointer, PointerWord, Reply};
+
+pub struct Generator {
+    current: Vec<u64>,
+    decided: Vec<bool>,
+}
+
+/// Opcodes and how often they are drawn.
+const WEIGHTS: [(u8, usize); 19] = [
+    (1, 6),
+    (2, 6),
+    (3, 4),
+    (4, 4),
+    (5, 3),
+    (6, 3),
+    (7, 3),
+    (8, 3),
+    (9, 5),
+    (10, 4),
+    (16, 10),
+    (17, 6),
+    (24, 4),
+    (25, 5),
+    (26, 5),
+    (32, 10),
+    (33, 9),
+    (40, 3),
+    (41, 1),
+];
+
+/// Each opcode as often as its weight.
+const DRAW: [u8; 94] = {
+    let mut draw = [0; 94];
+    let mut filled = 0;
+    let mut entry = 0;
+    while entry < WEIGHTS.len() {
+        let mut times = 0;
+        while times < WEIGHTS[entry].1 {
+            draw[filled] = WEIGHTS[entry].0;
+            filled += 1;
+            times += 1;
+        }
+        entry += 1;
+    }
+    assert!(filled == draw.len());
+    draw
+};
+
+impl Generator {
+    pub fn new() -> Generator {
+        Generator { current: Vec::new(), decided: Vec::new() }
+    }
+
+    /// A machine with descriptors, registers and data; its code is still to be drawn. `lowest` is the least ring of IPR.
+    pub fn draw(&mut self, random: &mut Random, machine: &mut Machine, lowest: u8) {
+        let size = random.below(1000);
+        let words = match size {
+            0 => 8192,
+            1..=4 => random.between(4090, 4300),
+            5..=60 => random.between(257, 600),
+            61..=300 => random.between(97, 256),
+            _ => random.between(24, 96),
+        };
+        let memory = &mut machine.memory;
+        memory.clear();
+        memory.resize(words, 0);
+        let segments = random.between(2, if words > 100 { 24 } else { 9 });
+        let table = match random.below(8) {
+            0 => random.below(words - segments + 1),
+            1 => words - segments,
+            2..=4 => 0,
+            _ => random.below(9),
+        };
+        let registers = &mut machine.registers;
+        registers.dbr = Dbr { address: table as u32, length: segments as u16 };
+        if random.chance(10) && words > 4096 {
+            registers.dbr.length = 4096.min(words - table) as u16;
+        }
+        registers.a = data(random);
+
+        // Data: pointer words, instructions, numbers.
+        let mut address = 0;
+        while address < words {
+            let draw = random.next();
+            memory[address] = match draw & 15 {
+                0..=4 => {
+                    let to = Pointer {
+                        ring: (draw >> 8 & draw >> 16 & 7) as u8,
+                        segno: ((draw >> 24 & 0xff) as usize % segments) as u16,
+                        wordno: (draw >> 32 & 15) as u16,
+                    };
+                    PointerWord { pointer: to, i: draw >> 40 & 7 == 0 }.to_word() | (draw >> 43 & 1) << 50
+                }
+                5..=7 => candidate(random, segments).to_word(),
+                8 => draw >> 4 & 0xff,
+                9 => draw,
+                10 if draw >> 60 == 0 => u64::MAX,
+                // As LDBR reads it.
+                11 => match draw >> 62 {
+                    0 | 1 => table as u64 | (segments as u64) << 24 | draw & !0 << 37,
+                    2 => (table as u64 + (draw >> 8 & draw >> 30 & 31)) | (draw >> 20 & 31) << 24 | draw & !0 << 36,
+                    _ => (words as u64 + (draw >> 8 & 1)) | (draw >> 9 & draw >> 10 & 1) << 24 | draw & !0 << 37,
+                },
+                _ => 0,
+            };
+            address += if words > 1000 && draw >> 63 == 0 { 37 } else { 1 };
+        }
+
+        // Descriptors.
+        for segno in 0..segments {
+            memory[table + segno] = descriptor(random, words, table + segments).to_word();
+        }
+        if random.chance(60) {
+            let segno = random.below(segments);
+            memory[table + segno] = damaged(random, memory[table + segno], words);
+        }
+
+        // IPR, in a segment that may mostly be executed.
+        let ring = match random.below(3) {
+            0 => lowest,
+            1 => random.between(usize::from(lowest), 7) as u8,
+            _ => random.between(usize::from(lowest), usize::from(lowest.max(4))) as u8,
+        };
+        let segno = random.below(segments);
+        let mut code = Descriptor::from_word(memory[table + segno]);
+        if random.chance(970) {
+            code.e = true;
+            code.r1 = code.r1.min(ring);
+            code.r2 = code.r2.max(ring);
+            code.r3 = code.r3.max(code.r2);
+            memory[table + segno] = code.to_word();
+        }
+        let word = random.below(usize::from(code.length.max(1))) as u16;
+        registers.ipr = Pointer { ring, segno: segno as u16, wordno: word };
+
+        // PRs.
+        for pr in &mut registers.pr {
+            let draw = random.next();
+            let segno = (draw >> 8 & 0xff) as usize % segments;
+            let length = (memory[table + segno] >> 24 & 0xffff) as usize;
+            pr.ring = if draw & 3 == 0 { ((draw >> 2 & 7) as u8).max(ring) } else { ring };
+            pr.segno = segno as u16;
+            pr.wordno = ((draw >> 20 & 0xffff) as usize % length.max(1)) as u16;
+            if draw >> 58 == 0 {
+                pr.wordno = (draw >> 40 & 0xffff) as u16;
+            } else if draw >> 58 == 1 {
+                pr.segno = (draw >> 40 & 0xfff) as u16;
+            }
+        }
+        if words > 120 && random.chance(50) {
+            chain(random, machine);
+        }
+        if random.chance(4) {
+            spoil(random, machine);
+        }
+    }
+
+    /// Draws the code of a machine while it runs, up to `budget` steps, and sets its budget.
+    pub fn code(&mut self, random: &mut Random, machine: &mut Machine, budget: u32) {
+        machine.budget = budget;
+        if second::machine::refusal(&machine.registers, machine.memory.len()).is_err() {
+            return;
+        }
+        self.current.clear();
+        self.current.extend_from_slice(&machine.memory);
+        self.decided.clear();
+        self.decided.resize(machine.memory.len(), false);
+        let mut registers = machine.registers;
+        let mut since_new = 0;
+        for count in 0..budget {
+            if second::machine::fetch(&registers, &self.current).is_err() {
+                break;
+            }
+            let dbr = registers.dbr;
+            let table = dbr.address as usize;
+            let code = Descriptor::from_word(self.current[table + usize::from(registers.ipr.segno)]);
+            let address = code.address as usize + usize::from(registers.ipr.wordno);
+            let is_new = !self.decided[address];
+            self.decided[address] = true;
+            if !is_new {
+                if !matches!(second::step(&mut registers, &mut self.current), Reply::Spent { .. }) {
+                    break;
+                }
+                since_new += 1;
+                if since_new > 300 && random.chance(2) {
+                    machine.budget = count + 1 + random.below(3) as u32;
+                    break;
+                }
+                continue;
+            }
+            since_new = 0;
+            let is_kept_anyway = random.chance(20);
+            let mut is_done = false;
+            let is_last_word = registers.ipr.wordno + 1 >= code.length;
+            for _ in 0..20 {
+                let instruction = self.sensible(random, &registers);
+                let halts = instruction.opcode == 41 && registers.ipr.ring == 0;
+                if halts && !random.chance(100) || is_last_word && matches!(instruction.opcode, 2 | 9 | 17) {
+                    continue;
+                }
+                self.current[address] = instruction.to_word();
+                machine.memory[address] = instruction.to_word();
+                let before = registers;
+                is_done = matches!(second::step(&mut registers, &mut self.current), Reply::Spent { .. });
+                if is_kept_anyway || halts {
+                    break;
+                }
+                // What wrote nothing is taken back if it leads nowhere.
+                let wrote = matches!(instruction.opcode, 2 | 9 | 17);
+                if is_done && !wrote && second::machine::fetch(&registers, &self.current).is_err() {
+                    registers = before;
+                    is_done = false;
+                }
+                if is_done {
+                    break;
+                }
+            }
+            if !is_done {
+                break;
+            }
+        }
+    }
+
+    /// An instruction that has a chance to complete.
+    fn sensible(&self, random: &mut Random, registers: &second::Registers) -> Instruction {
+        let segments = usize::from(registers.dbr.length).max(1);
+        let mut instruction = candidate(random, segments);
+        if random.chance(850) {
+            // An offset to a word of the segment.
+            let from = if instruction.p { registers.pr[usize::from(instruction.prnum)] } else { registers.ipr };
+            if from.segno < registers.dbr.length {
+                let word = self.current[registers.dbr.address as usize + usize::from(from.segno)];
+                let length = Descriptor::from_word(word).length;
+                let one_more = usize::from(random.chance(5));
+                let to = random.below(usize::from(length.max(1)) + one_more) as u16;
+                instruction.offset = to.wrapping_sub(from.wordno);
+            }
+        }
+        instruction
+    }
+}
+
+fn candidate(random: &mut Random, segments: usize) -> Instruction {
+    let draw = random.next();
+    let opcode = if draw >> 56 == 0 { (draw >> 48) as u8 } else { DRAW[(draw >> 40 & 0xffff) as usize % DRAW.len()] };
+    Instruction {
+        offset: (draw & 7) as u16,
+        prnum: (draw >> 3 & 7) as u8,
+        p: draw >> 6 & 3 != 0,
+        i: draw >> 8 & 3 == 0,
+        reg: (draw >> 10 & 7) as u8,
+        opcode,
+        lit: match draw >> 13 & 3 {
+            0 => 0,
+            1 => (draw >> 15) as u32,
+            _ => (draw >> 15) as u32 % (2 * segments as u32),
+        },
+    }
+}
+
+fn data(random: &mut Random) -> u64 {
+    let draw = random.next();
+    match draw & 3 {
+        0 => 0,
+        1 => draw >> 2 & 0xff,
+        2 => draw,
+        _ => 1 << (draw >> 2 & 63),
+    }
+}
+
+fn descriptor(random: &mut Random, words: usize, table_end: usize) -> Descriptor {
+    let draw = random.next();
+    let mut rings = [(draw & 7) as u8, (draw >> 3 & 7) as u8, (draw >> 6 & 7) as u8];
+    rings.sort_unstable();
+    if draw >> 9 & 3 == 0 {
+        rings[0] = 0;
+    }
+    if draw >> 11 & 3 == 0 {
+        rings[2] = 7;
+    }
+    if draw >> 13 & 7 == 0 {
+        rings[1] = 7;
+        rings[2] = 7;
+    }
+    let length = 1 + (draw >> 16 & 0xffff) as usize % (words / 2).min(40);
+    // Mostly behind the descriptors.
+    let first = if draw >> 60 != 0 && table_end + length < words { table_end } else { 0 };
+    let address = first + random.below(words - length - first + 1);
+    Descriptor {
+        address: address as u32,
+        length: length as u16,
+        r1: rings[0],
+        r2: rings[1],
+        r3: rings[2],
+        r: draw >> 32 & 7 != 0,
+        w: draw >> 35 & 3 != 0,
+        e: draw >> 37 & 3 != 0,
+        v: true,
+        gate: ((draw >> 40 & 0xffff) as usize % (length + 2)) as u16,
+    }
+}
+
+/// A segment with about 64 pointer words, each pointing to the next, and a PR to it.
+fn chain(random: &mut Random, machine: &mut Machine) {
+    let dbr = machine.registers.dbr;
+    let length = random.between(62, 70);
+    let address = random.between(0, machine.memory.len() - length);
+    let segno = random.below(usize::from(dbr.length));
+    let descriptor = Descriptor {
+        address: address as u32,
+        length: length as u16,
+        r1: random.below(3) as u8,
+        r2: 7,
+        r3: 7,
+        r: true,
+        w: random.chance(500),
+        e: random.chance(500),
+        v: true,
+        gate: 3,
+    };
+    for word in 0..length {
+        let next = Pointer { ring: 0, segno: segno as u16, wordno: word as u16 + 1 };
+        machine.memory[address + word] = PointerWord { pointer: next, i: word + 2 < length }.to_word();
+    }
+    machine.memory[dbr.address as usize + segno] = descriptor.to_word();
+    let pr = &mut machine.registers.pr[random.below(8)];
+    (pr.segno, pr.wordno) = (segno as u16, random.below(8) as u16);
+}
+
+/// A descriptor with one thing changed.
+fn damaged(random: &mut Random, word: u64, words: usize) -> u64 {
+    let descriptor = Descriptor::from_word(word);
+    let changed = match random.below(7) {
+        0 => Descriptor { v: false, ..descriptor },
+        1 => Descriptor { r1: random.below(8) as u8, ..descriptor },
+        2 => Descriptor { r2: random.below(8) as u8, ..descriptor },
+        3 => Descriptor { length: 0, address: (words + random.below(3) - 1) as u32, ..descriptor },
+        4 => Descriptor { address: random.next() as u32 & 0xff_ffff, ..descriptor },
+        5 => Descriptor { length: random.next() as u16, ..descriptor },
+        _ => return random.next(),
+    };
+    changed.to_word()
+}
+
+/// Registers with one thing changed, so that 2, 3 or 4 may be no.
+fn spoil(random: &mut Random, machine: &mut Machine) {
+    let words = machine.memory.len();
+    let registers = &mut machine.registers;
+    let pr = random.below(8);
+    match random.below(9) {
+        0 => registers.pr[pr].ring = random.below(256) as u8,
+        1 => registers.pr[pr].segno = random.between(4094, 4098) as u16,
+        2 => registers.ipr.ring = random.below(256) as u8,
+        3 => registers.ipr.segno = random.between(4094, 4098) as u16,
+        4 => registers.dbr.address = random.pick(&[16_777_215, 16_777_216, u32::MAX, 1 << 31]),
+        5 => registers.dbr.length = random.pick(&[4095, 4096, 4097, 65_535]),
+        6 => registers.dbr.address = (words - usize::from(registers.dbr.length)) as u32 + random.below(3) as u32,
+        7 => registers.pr[pr].ring = registers.ipr.ring.saturating_sub(1),
+        _ => registers.ipr.wordno = 65_535,
+    }
+}
+
+/// A budget: mostly small, some long.
+pub fn budget(random: &mut Random) -> u32 {
+    let budget = match random.below(1000) {
+        0..=3 => random.between(1000, 4000),
+        4..=24 => random.between(100, 999),
+        25..=180 => random.between(17, 99),
+        181..=190 => 0,
+        _ => random.between(1, 16),
+    };
+    budget as u32
+}
+
+/// Every opcode of the table has its weight.
+const _: () = {
+    let mut entry = 0;
+    while entry < WEIGHTS.len() {
+        assert!(WEIGHTS[entry].0 == Opcode::TABLE[entry].0);
+        entry += 1;
+    }
+};

@@ -1,0 +1,280 @@
+//! Images for the bench's call: whole, damaged, and every short sequence of records.
+
+use crate::compare::{Comparer, Difference, Machine};
+use crate::describe::{self, pointer_bytes, st};
+use crate::random::Random;
+use second::{Dbr, Descriptor, Instruction, Pointer};
+
+/// An image, the buffer's length, and what differs.
+pub type Failure = (Vec<u8>, usize, Difference);
+
+fn needed(budget: u32) -> usize {
+    64 * (budget as usize + 1)
+}
+
+fn record(mark: &[u8; 2], numbers: &[&[u8]]) -> Vec<u8> {
+    let mut record = mark.to_vec();
+    for number in numbers {
+        record.extend_from_slice(number);
+    }
+    record
+}
+
+pub fn me(words: u32) -> Vec<u8> {
+    record(b"ME", &[&words.to_be_bytes()])
+}
+
+pub fn wd(address: u32, word: u64) -> Vec<u8> {
+    record(b"WD", &[&address.to_be_bytes(), &word.to_be_bytes()])
+}
+
+pub fn rn(budget: u32) -> Vec<u8> {
+    record(b"RN", &[&budget.to_be_bytes()])
+}
+
+/// A machine's records: ME, ST somewhere, its words in some order, some twice, RN.
+pub fn records(random: &mut Random, machine: &Machine) -> Vec<Vec<u8>> {
+    let mut words = Vec::new();
+    for (address, word) in machine.memory.iter().enumerate() {
+        if *word != 0 {
+            if random.chance(30) {
+                words.push(wd(address as u32, random.next()));
+            }
+            words.push(wd(address as u32, *word));
+        } else if random.chance(10) {
+            words.push(wd(address as u32, 0));
+        }
+    }
+    if random.chance(300) {
+        // Some order, but with the later of two still later: turned round by a number of records.
+        let by = random.below(words.len() + 1);
+        words.rotate_left(by);
+    }
+    words.insert(random.below(words.len() + 1), st(&machine.registers));
+    words.insert(0, me(machine.memory.len() as u32));
+    words.push(rn(machine.budget));
+    words
+}
+
+fn compare(comparer: &mut Comparer, random: &mut Random, image: &[u8], length: usize) -> Result<i64, Failure> {
+    comparer.image(image, length, random.next() as u8).map_err(|difference| (image.to_vec(), length, difference))
+}
+
+/// An image as it is, with a buffer that is large enough, or just or well too small.
+pub fn whole(comparer: &mut Comparer, random: &mut Random, machine: &Machine) -> Result<(), Failure> {
+    let image = records(random, machine).concat();
+    let length = match random.below(10) {
+        0 => needed(machine.budget) - 1,
+        1 => random.below(needed(machine.budget)),
+        2 => needed(machine.budget) + random.below(100),
+        _ => needed(machine.budget),
+    };
+    compare(comparer, random, &image, length).map(|_| ())
+}
+
+/// One damage, drawn.
+pub fn damaged(comparer: &mut Comparer, random: &mut Random, machine: &Machine) -> Result<(), Failure> {
+    let mut records = records(random, machine);
+    let length = needed(machine.budget);
+    let (one, other) = (random.below(records.len()), random.below(records.len()));
+    let mut image = match random.below(6) {
+        0 => {
+            records.swap(one, other);
+            records.concat()
+        }
+        1 => {
+            records.remove(one);
+            records.concat()
+        }
+        2 => {
+            let again = records[one].clone();
+            records.insert(other, again);
+            records.concat()
+        }
+        _ => records.concat(),
+    };
+    match random.below(4) {
+        0 => image.truncate(random.below(image.len() + 1)),
+        1 => {
+            let place = random.below(image.len().max(1));
+            if let Some(byte) = image.get_mut(place) {
+                *byte = random.next() as u8;
+            }
+        }
+        2 => {
+            // Among the first 70 bytes: ME, and mostly ST.
+            let place = random.below(image.len().clamp(1, 70));
+            if let Some(byte) = image.get_mut(place) {
+                *byte ^= 1 << random.below(8);
+            }
+        }
+        _ => image.push(random.next() as u8),
+    }
+    compare(comparer, random, &image, length).map(|_| ())
+}
+
+/// Every damage of one image: each truncation, each byte changed, records exchanged, doubled, dropped.
+pub fn all_damages(comparer: &mut Comparer, random: &mut Random, machine: &Machine) -> Result<u64, Failure> {
+    let records = records(random, machine);
+    let image = records.concat();
+    let length = needed(machine.budget);
+    let before = comparer.images;
+    for end in 0..=image.len() {
+        compare(comparer, random, &image[..end], length)?;
+    }
+    for place in 0..image.len() {
+        for value in [0, 1, 7, 8, 127, 255, image[place] ^ 1, image[place] ^ 32, image[place].wrapping_add(1)] {
+            let mut image = image.clone();
+            image[place] = value;
+            compare(comparer, random, &image, length)?;
+        }
+    }
+    for one in 0..records.len() {
+        let mut dropped = records.clone();
+        dropped.remove(one);
+        compare(comparer, random, &dropped.concat(), length)?;
+        for other in 0..=records.len() {
+            let mut doubled = records.clone();
+            doubled.insert(other, records[one].clone());
+            compare(comparer, random, &doubled.concat(), length)?;
+        }
+        for other in one + 1..records.len() {
+            let mut exchanged = records.clone();
+            exchanged.swap(one, other);
+            compare(comparer, random, &exchanged.concat(), length)?;
+        }
+    }
+    for length in [0, 1, 63, 64, length - 64, length - 1, length, length + 1, length + 64] {
+        compare(comparer, random, &image, length)?;
+    }
+    Ok(comparer.images - before)
+}
+
+/// Every sequence of at most `depth` records, good and bad, with a buffer of 256 bytes: enough for a budget of 3.
+pub fn sequences(comparer: &mut Comparer, random: &mut Random, depth: usize) -> Result<u64, Failure> {
+    let before = comparer.images;
+    let good = |address: u32, length: u16, ipr: u8, pr: u8| {
+        let mut record = b"ST".to_vec();
+        record.extend(7_u64.to_be_bytes());
+        record.extend(address.to_be_bytes());
+        record.extend(length.to_be_bytes());
+        record.extend(pointer_bytes(Pointer { ring: ipr, segno: 1, wordno: 0 }));
+        for _ in 0..8 {
+            record.extend(pointer_bytes(Pointer { ring: pr, segno: 4095, wordno: 65_535 }));
+        }
+        record
+    };
+    // Word 1 describes words 4 to 7, which the WD fills with LDI.
+    let code = Descriptor { address: 4, length: 4, r2: 7, r3: 7, e: true, v: true, ..Default::default() };
+    let tokens: Vec<Vec<u8>> = vec![
+        me(8),
+        me(8192),
+        me(8193),
+        me(0),
+        good(0, 2, 3, 4),
+        good(1 << 24, 2, 3, 4), // 2
+        good(0, 2, 4, 3),       // 3
+        good(0, 9000, 3, 4),    // 4
+        good(9000, 0, 8, 4),    // 2, then 4
+        wd(1, code.to_word()),
+        wd(7, 10 << 24),
+        wd(8, 1),
+        rn(3),
+        rn(4), // 45
+        rn(u32::MAX),
+        rn(0),
+        b"R".to_vec(),
+        b"me\0\0\0\x08".to_vec(),
+        b"ME\0\0\0".to_vec(),
+        b"ST\0\0\0\0\0\0".to_vec(),
+        b"WD\0\0\0\x01\0\0\0".to_vec(),
+        b"RN\0\0\0".to_vec(),
+    ];
+    let mut image = Vec::new();
+    let mut ends = Vec::new();
+    fn extend(
+        comparer: &mut Comparer,
+        random: &mut Random,
+        tokens: &[Vec<u8>],
+        image: &mut Vec<u8>,
+        ends: &mut Vec<usize>,
+        depth: usize,
+    ) -> Result<(), Failure> {
+        compare(comparer, random, image, 256)?;
+        if depth == 0 {
+            return Ok(());
+        }
+        for token in tokens {
+            ends.push(image.len());
+            image.extend_from_slice(token);
+            extend(comparer, random, tokens, image, ends, depth - 1)?;
+            if let Some(end) = ends.pop() {
+                image.truncate(end);
+            }
+        }
+        Ok(())
+    }
+    extend(comparer, random, &tokens, &mut image, &mut ends, depth)?;
+    Ok(comparer.images - before)
+}
+
+/// Numbers of every length in the listing's lines: rings, segments, words, counts.
+pub fn numbers(comparer: &mut Comparer, random: &mut Random) -> Result<u64, Failure> {
+    let before = comparer.images;
+    let all = Descriptor { address: 4096, length: 4096, r2: 7, r3: 7, e: true, v: true, ..Descriptor::default() };
+    for segno in [0, 1, 9, 10, 99, 100, 999, 1000, 4095] {
+        for wordno in [0, 8, 9, 10, 98, 99, 100, 998, 999, 1000, 4094] {
+            for ring in 0..8 {
+                // LDI, then LDA of a word that doesn't exist.
+                let mut machine = Machine { memory: vec![0; 8192], budget: 2, ..Machine::default() };
+                machine.registers.dbr = Dbr { address: 0, length: 4096 };
+                machine.registers.ipr = Pointer { ring, segno, wordno };
+                let far = random.pick(&[0, 9, 10, 99, 100, 999, 1000, 9999, 10_000, 65_534, 65_535]);
+                let near = random.pick(&[0, 9, 10, 99, 100, 999, 1000, 4095]);
+                machine.registers.pr = [Pointer { ring: 7, segno: near, wordno: far }; 8];
+                machine.memory[usize::from(segno)] = all.to_word();
+                let lda = Instruction { opcode: 1, p: true, ..Instruction::default() };
+                machine.memory[4096 + usize::from(wordno)] = 10 << 24;
+                machine.memory[4097 + usize::from(wordno)] = lda.to_word();
+                compare(comparer, random, &describe::image(&machine), needed(2))?;
+            }
+        }
+    }
+    // A transfer to itself, for a count of seven digits.
+    for budget in [9, 10, 99, 100, 999, 1000, 9999, 10_000, 99_999, 100_000, 1_000_001] {
+        let mut machine = Machine { memory: vec![0; 8], budget, ..Machine::default() };
+        machine.registers.dbr.length = 1;
+        machine.memory[0] = Descriptor { address: 4, length: 1, ..all }.to_word();
+        machine.memory[4] = 24 << 24;
+        compare(comparer, random, &describe::image(&machine), needed(budget))?;
+    }
+    Ok(comparer.images - before)
+}
+
+/// Makes a failing image smaller while it still fails: fewer bytes, then more zeros.
+pub fn shrink(comparer: &mut Comparer, mut image: Vec<u8>, length: usize) -> Vec<u8> {
+    let mut fails = |image: &[u8]| comparer.image(image, length, 0xee).is_err();
+    let mut size = image.len();
+    while size > 0 {
+        let mut place = 0;
+        while place + size <= image.len() {
+            let mut smaller = image.clone();
+            smaller.drain(place..place + size);
+            if fails(&smaller) {
+                image = smaller;
+            } else {
+                place += 1;
+            }
+        }
+        // Whole records are 14 bytes or more; below that, halves.
+        size = if size > 14 { (size / 2).max(14) } else { size / 2 };
+    }
+    for place in 0..image.len() {
+        let mut simpler = image.clone();
+        simpler[place] = 0;
+        if image[place] != 0 && fails(&simpler) {
+            image = simpler;
+        }
+    }
+    image
+}

@@ -1,0 +1,165 @@
+//! The C library, called as its header says.
+
+use second::{Dbr, Fault, Pointer, Registers, Reply};
+
+#[repr(C)]
+#[derive(Clone, Copy, Default)]
+struct CPointer {
+    ring: u8,
+    padding: u8,
+    segment: u16,
+    word: u16,
+}
+
+#[repr(C)]
+#[derive(Clone, Copy, Default)]
+struct CRegisters {
+    a: u64,
+    dbr_address: u32,
+    dbr_length: u16,
+    dbr_padding: u16,
+    ipr: CPointer,
+    prs: [CPointer; 8],
+    padding: u16,
+}
+
+/// The pointer of a reply, whose padding nobody reads.
+#[repr(C)]
+#[derive(Clone, Copy)]
+struct CReplyPointer {
+    ring: u8,
+    segment: u16,
+    word: u16,
+}
+
+#[repr(C)]
+#[derive(Clone, Copy)]
+struct CReply {
+    kind: u32,
+    number: u32,
+    count: u32,
+    pointer: CReplyPointer,
+}
+
+const _: () = assert!(std::mem::size_of::<CRegisters>() == 72);
+const _: () = assert!(std::mem::align_of::<CRegisters>() == 8);
+const _: () = assert!(std::mem::offset_of!(CRegisters, prs) == 22);
+const _: () = assert!(std::mem::size_of::<CReply>() == 20);
+const _: () = assert!(std::mem::offset_of!(CReply, pointer) == 12);
+const _: () = assert!(std::mem::offset_of!(CReplyPointer, segment) == 2);
+
+extern "C" {
+    fn kuzhlemor_step(registers: *mut CRegisters, memory: *mut u64, words: usize) -> CReply;
+    fn kuzhlemor_run(registers: *mut CRegisters, memory: *mut u64, words: usize, budget: u32) -> CReply;
+    fn kuzhlemor_bench(image: *const u8, image_length: usize, text: *mut u8, text_length: usize) -> i64;
+}
+
+/// A reply as the library gives it; it may be one that no `Reply` is.
+#[derive(Clone, Copy, Debug, PartialEq, Eq)]
+pub struct Answer {
+    pub kind: u32,
+    pub number: u32,
+    pub count: u32,
+    pub pointer: Pointer,
+}
+
+impl Answer {
+    pub const SPENT: u32 = 1;
+
+    /// What the header says for a reply: what a kind doesn't name is 0.
+    pub fn of(reply: Reply) -> Answer {
+        let (kind, number, count, pointer) = match reply {
+            Reply::Refused { number } => (0, number, 0, Pointer::default()),
+            Reply::Spent { count } => (1, 0, count, Pointer::default()),
+            Reply::Halted { count } => (2, 0, count, Pointer::default()),
+            Reply::Fault { fault: Fault { number, at }, count } => (3, number, count, at),
+        };
+        Answer { kind, number: u32::from(number), count, pointer }
+    }
+
+    fn from_c(reply: CReply) -> Answer {
+        Answer {
+            kind: reply.kind,
+            number: reply.number,
+            count: reply.count,
+            pointer: Pointer { ring: reply.pointer.ring, segno: reply.pointer.segment, wordno: reply.pointer.word },
+        }
+    }
+}
+
+const GUARD: usize = 8;
+const GUARD_WORD: u64 = 0x5a17_c0de_0bad_f00d;
+
+/// A machine in the library's hands: its record, and its memory between words that it must leave alone.
+pub struct Lent {
+    record: CRegisters,
+    words: Vec<u64>,
+}
+
+impl Lent {
+    pub fn new() -> Lent {
+        Lent { record: CRegisters::default(), words: Vec::new() }
+    }
+
+    /// Lends these. `padding` stands in the record's padding bytes, which carry nothing.
+    pub fn set(&mut self, registers: &Registers, memory: &[u64], padding: u8) {
+        self.words.clear();
+        self.words.extend_from_slice(&[GUARD_WORD; GUARD]);
+        self.words.extend_from_slice(memory);
+        self.words.extend_from_slice(&[GUARD_WORD; GUARD]);
+        self.set_registers(registers, padding);
+    }
+
+    pub fn set_registers(&mut self, registers: &Registers, padding: u8) {
+        let pointer =
+            |pointer: Pointer| CPointer { ring: pointer.ring, padding, segment: pointer.segno, word: pointer.wordno };
+        self.record = CRegisters {
+            a: registers.a,
+            dbr_address: registers.dbr.address,
+            dbr_length: registers.dbr.length,
+            dbr_padding: u16::from(padding),
+            ipr: pointer(registers.ipr),
+            prs: registers.pr.map(pointer),
+            padding: u16::from(padding),
+        };
+    }
+
+    pub fn registers(&self) -> Registers {
+        let pointer = |pointer: CPointer| Pointer { ring: pointer.ring, segno: pointer.segment, wordno: pointer.word };
+        Registers {
+            a: self.record.a,
+            dbr: Dbr { address: self.record.dbr_address, length: self.record.dbr_length },
+            ipr: pointer(self.record.ipr),
+            pr: self.record.prs.map(pointer),
+        }
+    }
+
+    pub fn memory(&self) -> &[u64] {
+        &self.words[GUARD..self.words.len() - GUARD]
+    }
+
+    pub fn guards_stand(&self) -> bool {
+        let end = self.words.len() - GUARD;
+        self.words[..GUARD] == [GUARD_WORD; GUARD] && self.words[end..] == [GUARD_WORD; GUARD]
+    }
+
+    pub fn step(&mut self) -> Answer {
+        let words = self.words.len() - 2 * GUARD;
+        // SAFETY: one record and `words` words, aligned, lent alone for the call.
+        let reply = unsafe { kuzhlemor_step(&mut self.record, self.words.as_mut_ptr().add(GUARD), words) };
+        Answer::from_c(reply)
+    }
+
+    pub fn run(&mut self, budget: u32) -> Answer {
+        let words = self.words.len() - 2 * GUARD;
+        // SAFETY: as in `step`.
+        let reply = unsafe { kuzhlemor_run(&mut self.record, self.words.as_mut_ptr().add(GUARD), words, budget) };
+        Answer::from_c(reply)
+    }
+}
+
+/// The bench's call.
+pub fn bench(image: &[u8], text: &mut [u8]) -> i64 {
+    // SAFETY: two runs of bytes, the second lent alone for the call.
+    unsafe { kuzhlemor_bench(image.as_ptr(), image.len(), text.as_mut_ptr(), text.len()) }
+}

@@ -1,0 +1,239 @@
+//! Compares the second implementation with libkuzhlemor.a: `compare quick`, or `compare long N [SEED]`.
+
+mod compare;
+mod describe;
+mod directed;
+mod generator;
+mod images;
+mod library;
+mod random;
+mod reach;
+mod secrecy;
+
+use std::process::ExitCode;
+use std::time::Instant;
+
+use compare::{Comparer, Machine};
+use directed::Pairs;
+use generator::{budget, Generator};
+use random::Random;
+use secrecy::{Leak, Secrecy};
+
+/// How much of each kind to compare.
+struct Plan {
+    seed: u64,
+    grids: u32,
+    machines: u64,
+    pairs: u64,
+    images: u64,
+    damaged: u64,
+    depth: usize,
+}
+
+const USAGE: &str = "compare quick\ncompare long N [SEED]";
+
+fn main() -> ExitCode {
+    let arguments: Vec<String> = std::env::args().skip(1).collect();
+    let number = |place: usize| arguments.get(place).and_then(|number| number.replace([',', '_'], "").parse().ok());
+    let plan = match (arguments.first().map(String::as_str), arguments.len()) {
+        (Some("quick"), 1) => {
+            Plan { seed: 1, grids: 3, machines: 3_000_000, pairs: 500_000, images: 100_000, damaged: 60, depth: 4 }
+        }
+        (Some("long"), 2 | 3) => match (number(1), number(2)) {
+            (Some(many), seed) if arguments.len() == 2 || seed.is_some() => {
+                let images = many / 10;
+                Plan {
+                    seed: seed.unwrap_or(1),
+                    grids: 1,
+                    machines: many - images - many / 10,
+                    pairs: many / 10,
+                    images,
+                    damaged: 60,
+                    depth: 5,
+                }
+            }
+            _ => {
+                eprintln!("{USAGE}");
+                return ExitCode::from(2);
+            }
+        },
+        _ => {
+            eprintln!("{USAGE}");
+            return ExitCode::from(2);
+        }
+    };
+    match carry_out(&plan) {
+        Ok(()) => ExitCode::SUCCESS,
+        Err(text) => {
+            println!("{text}");
+            ExitCode::FAILURE
+        }
+    }
+}
+
+/// Says what a part compared and how long it took.
+struct Clock(Instant);
+
+impl Clock {
+    fn part(&mut self, text: &str) {
+        println!("{text} ({:.1} s)", self.0.elapsed().as_secs_f64());
+        self.0 = Instant::now();
+    }
+}
+
+fn carry_out(plan: &Plan) -> Result<(), String> {
+    println!("seed {}", plan.seed);
+    let mut clock = Clock(Instant::now());
+    let mut comparer = Comparer::new();
+    let mut generator = Generator::new();
+
+    let count = directed::cases(&mut comparer).map_err(|failure| machine_differs(plan, *failure))?;
+    clock.part(&format!("directed: {count} machines with the reply that 01 gives"));
+
+    // Each part has its own numbers, so that no other part changes what it draws.
+    let mut random = Random::new(plan.seed);
+    let mut pairs = Pairs::new();
+    let mut count = 0;
+    for _ in 0..plan.grids {
+        count += directed::grid(&mut comparer, &mut random, &mut pairs).map_err(|f| machine_differs(plan, *f))?;
+    }
+    clock.part(&format!("directed: {count} machines over all rings, brackets and flags, with the reply that 01 gives"));
+    pairs.print();
+
+    all_images(plan, &mut comparer, &mut generator, &mut clock)?;
+
+    let mut random = Random::new(!plan.seed);
+    let mut machine = Machine::default();
+    for count in 0..plan.machines {
+        let mut random = Random::new(random.next());
+        generator.draw(&mut random, &mut machine, 0);
+        let budget = budget(&mut random);
+        generator.code(&mut random, &mut machine, budget);
+        if let Err(difference) = comparer.machine(&machine) {
+            return Err(machine_differs(plan, (format!("machine {count}"), machine, difference)));
+        }
+    }
+    clock.part(&format!("random: {} machines", plan.machines));
+
+    let mut random = Random::new(plan.seed.rotate_left(16));
+    let mut secrecy = Secrecy::new();
+    for _ in 0..plan.pairs {
+        secrecy.pair(&mut random, &mut generator).map_err(|leak| leaks(plan, *leak))?;
+    }
+    clock.part(&format!(
+        "secrecy: {} pairs of machines, {} steps, {} words hidden; {} stretches end below ring n, {} with a fault; \
+         {} wrote a hidden word; by n from 1: {:?}",
+        secrecy.pairs,
+        secrecy.steps,
+        secrecy.hidden_words,
+        secrecy.ended_below,
+        secrecy.faults,
+        secrecy.wrote_hidden,
+        &secrecy.by_ring[1..]
+    ));
+
+    let missed = comparer.reach.print();
+    if !missed.is_empty() {
+        return Err(format!("compare: none different, but never reached: {}", missed.join(", ")));
+    }
+    let (machines, images) = (comparer.machines + 2 * secrecy.pairs, comparer.images);
+    println!("compare: {machines} machines, {images} images, none different");
+    Ok(())
+}
+
+fn all_images(
+    plan: &Plan,
+    comparer: &mut Comparer,
+    generator: &mut Generator,
+    clock: &mut Clock,
+) -> Result<(), String> {
+    let random = &mut Random::new(plan.seed.rotate_left(32));
+    let differs = |comparer: &mut Comparer, (image, length, difference): images::Failure| {
+        image_differs(plan, comparer, image, length, difference)
+    };
+    let mut draw = |random: &mut Random, most: usize| {
+        let mut machine = Machine::default();
+        generator.draw(random, &mut machine, 0);
+        let budget = budget(random).min(random.between(0, most) as u32);
+        generator.code(random, &mut machine, budget);
+        machine
+    };
+    let count = images::sequences(comparer, random, plan.depth).map_err(|failure| differs(comparer, failure))?;
+    clock.part(&format!("images: {count}, every sequence of at most {} records", plan.depth));
+
+    let count = images::numbers(comparer, random).map_err(|failure| differs(comparer, failure))?;
+    clock.part(&format!("images: {count}, numbers of every length"));
+
+    let mut count = 0;
+    for _ in 0..plan.damaged {
+        let mut machine = draw(random, 20);
+        machine.memory.truncate(128);
+        count += images::all_damages(comparer, random, &machine).map_err(|failure| differs(comparer, failure))?;
+    }
+    clock.part(&format!("images: {count}, every damage of {} images", plan.damaged));
+
+    for _ in 0..plan.images / 2 {
+        let machine = draw(random, 2000);
+        images::whole(comparer, random, &machine).map_err(|failure| differs(comparer, failure))?;
+        let machine = draw(random, 100);
+        images::damaged(comparer, random, &machine).map_err(|failure| differs(comparer, failure))?;
+    }
+    clock.part(&format!("images: {}, drawn, one half damaged", plan.images / 2 * 2));
+    Ok(())
+}
+
+/// Writes a failing input's image and description; answers the text.
+fn write_out(name: &str, images: &[(&str, Vec<u8>)], text: String) -> String {
+    let mut text = text;
+    for (suffix, image) in images {
+        let path = format!("{name}{suffix}.img");
+        match std::fs::write(&path, image) {
+            Ok(()) => text += &format!("\nwritten to {path}"),
+            Err(error) => text += &format!("\n{path}: {error}"),
+        }
+    }
+    let path = format!("{name}.txt");
+    match std::fs::write(&path, format!("{text}\n")) {
+        Ok(()) => text + &format!(" and {path}"),
+        Err(error) => text + &format!("\n{path}: {error}"),
+    }
+}
+
+fn machine_differs(plan: &Plan, (name, machine, first): directed::Failure) -> String {
+    let mut comparer = Comparer::new();
+    // Where both agree and only the paper differs, nothing fails here, and the machine stays as it is.
+    let smaller = describe::shrink(machine, &mut |machine| comparer.machine(machine).is_err());
+    let difference = comparer.machine(&smaller).err().unwrap_or(first);
+    let text = format!("compare: DIFFERENT, in {name}\n{}\n{}", difference.0, describe::describe(&smaller));
+    write_out(&format!("failing-{}", plan.seed), &[("", describe::image(&smaller))], text)
+}
+
+fn leaks(plan: &Plan, (difference, n, one, two): Leak) -> String {
+    let mut text = format!("compare: A LEAK to ring {n}\n{}\n{}", difference.0, describe::describe(&one));
+    for (address, (one, two)) in one.memory.iter().zip(&two.memory).enumerate() {
+        if one != two {
+            text += &format!("hidden word {address}: {one:#018x} or {two:#018x}\n");
+        }
+    }
+    let images = [("-one", describe::image(&one)), ("-other", describe::image(&two))];
+    write_out(&format!("failing-{}", plan.seed), &images, text)
+}
+
+fn image_differs(
+    plan: &Plan,
+    comparer: &mut Comparer,
+    image: Vec<u8>,
+    length: usize,
+    first: compare::Difference,
+) -> String {
+    let smaller = images::shrink(comparer, image, length);
+    let difference = comparer.image(&smaller, length, 0xee).err().unwrap_or(first);
+    let mut text = format!("compare: DIFFERENT, in an image of {} bytes, below\n{}", smaller.len(), difference.0);
+    match second::read_image(&smaller) {
+        Ok(second::Image { registers, memory, budget }) => {
+            text += &format!("\n{}", describe::describe(&Machine { registers, memory, budget }));
+        }
+        Err(number) => text += &format!("\nsecond refuses it: {number}"),
+    }
+    write_out(&format!("failing-{}", plan.seed), &[("", smaller)], text)
+}

@@ -1,0 +1,409 @@
+//! The registers, the questions in the paper's order, a step, and a run under a budget.
+
+use crate::words::{Dbr, Descriptor, Instruction, Opcode, Pointer, PointerWord};
+
+/// PR6 is the stack pointer, PR7 the stack base.
+#[derive(Clone, Copy, Debug, Default, PartialEq, Eq)]
+pub struct Registers {
+    pub a: u64,
+    pub dbr: Dbr,
+    pub ipr: Pointer,
+    pub pr: [Pointer; 8],
+}
+
+/// What a run answers.
+#[derive(Clone, Copy, Debug, PartialEq, Eq)]
+pub enum Reply {
+    Refused { number: u8 },
+    Spent { count: u32 },
+    Halted { count: u32 },
+    Fault { fault: Fault, count: u32 },
+}
+
+/// A no to a question from 11 on: its number, and the address and ring under question.
+#[derive(Clone, Copy, Debug, PartialEq, Eq)]
+pub struct Fault {
+    pub number: u8,
+    pub at: Pointer,
+}
+
+/// What a completed step leaves to do.
+#[derive(Clone, Copy, Debug, PartialEq, Eq)]
+enum Completed {
+    GoOn,
+    Halt,
+}
+
+/// The most words that memory may have.
+pub const MEMORY_LIMIT: usize = 16_777_216;
+
+// ---- Before a run or step: a no refuses the call.
+
+/// The number of the first question of 1 to 4 that is answered no.
+pub fn refusal(registers: &Registers, words: usize) -> Result<(), u8> {
+    // 1
+    if !memory_is_allowed(words) {
+        return Err(1);
+    }
+    // 2
+    if !fields_are_in_range(registers) {
+        return Err(2);
+    }
+    // 3
+    if !prs_are_at_or_above_ipr(registers) {
+        return Err(3);
+    }
+    // 4
+    if !descriptor_segment_is_allowed(registers.dbr, words) {
+        return Err(4);
+    }
+    Ok(())
+}
+
+/// 1: has memory at most 16,777,216 words?
+fn memory_is_allowed(words: usize) -> bool {
+    words <= MEMORY_LIMIT
+}
+
+/// 2: are rings ≤ 7, SEGNO ≤ 4,095, WORDNO ≤ 65,535, DBR ADDRESS ≤ 16,777,215? (A u16 is never above 65,535.)
+fn fields_are_in_range(registers: &Registers) -> bool {
+    let in_range = |pointer: &Pointer| pointer.ring <= 7 && pointer.segno <= 4_095;
+    in_range(&registers.ipr) && registers.pr.iter().all(in_range) && registers.dbr.address <= 16_777_215
+}
+
+/// 3: is every PR's RING ≥ IPR.RING?
+fn prs_are_at_or_above_ipr(registers: &Registers) -> bool {
+    registers.pr.iter().all(|pr| pr.ring >= registers.ipr.ring)
+}
+
+/// 4, and 34 of the DBR that LDBR reads: is LENGTH ≤ 4,096 and ADDRESS + LENGTH within memory?
+fn descriptor_segment_is_allowed(dbr: Dbr, words: usize) -> bool {
+    dbr.length <= 4_096 && is_within_memory(dbr.address, dbr.length, words)
+}
+
+fn is_within_memory(address: u32, length: u16, words: usize) -> bool {
+    address as usize + usize::from(length) <= words
+}
+
+// ---- Whenever a segment is used.
+
+/// 11: SEGNO < DBR LENGTH?
+fn has_descriptor(at: &Pointer, dbr: &Dbr) -> bool {
+    at.segno < dbr.length
+}
+
+/// 12: V on?
+fn is_valid(segment: &Descriptor) -> bool {
+    segment.v
+}
+
+/// 13: R1 ≤ R2 ≤ R3?
+fn rings_are_ordered(segment: &Descriptor) -> bool {
+    segment.r1 <= segment.r2 && segment.r2 <= segment.r3
+}
+
+/// 14: ADDRESS + LENGTH within memory?
+fn segment_is_within_memory(segment: &Descriptor, words: usize) -> bool {
+    is_within_memory(segment.address, segment.length, words)
+}
+
+/// 15: WORDNO < LENGTH?
+fn word_exists(at: &Pointer, segment: &Descriptor) -> bool {
+    at.wordno < segment.length
+}
+
+// ---- By use.
+
+/// 21 of IPR's ring, 25 of TPR's: E on, R1 ≤ ring ≤ R2?
+fn may_execute(segment: &Descriptor, ring: u8) -> bool {
+    segment.e && segment.r1 <= ring && ring <= segment.r2
+}
+
+/// 22: R on, TPR.RING ≤ R2?
+fn may_read(segment: &Descriptor, ring: u8) -> bool {
+    segment.r && ring <= segment.r2
+}
+
+/// 23: W on, TPR.RING ≤ R1?
+fn may_write(segment: &Descriptor, ring: u8) -> bool {
+    segment.w && ring <= segment.r1
+}
+
+/// 24: TPR.RING = IPR.RING?
+fn keeps_the_ring(tpr: &Pointer, ipr: &Pointer) -> bool {
+    tpr.ring == ipr.ring
+}
+
+/// 26: E on?
+fn is_executable(segment: &Descriptor) -> bool {
+    segment.e
+}
+
+/// 27: same segment as the instruction, or WORDNO < GATE?
+fn enters_at_a_gate(segment: &Descriptor, tpr: &Pointer, ipr: &Pointer) -> bool {
+    tpr.segno == ipr.segno || tpr.wordno < segment.gate
+}
+
+/// 28: TPR.RING ≤ R3?
+fn is_within_gate_extension(segment: &Descriptor, tpr: &Pointer) -> bool {
+    tpr.ring <= segment.r3
+}
+
+/// 29: TPR.RING ≥ R1?
+fn is_not_below_execute_bracket(segment: &Descriptor, tpr: &Pointer) -> bool {
+    tpr.ring >= segment.r1
+}
+
+/// 30: new ring ≤ IPR.RING?
+fn does_not_raise_the_ring(new_ring: u8, ipr: &Pointer) -> bool {
+    new_ring <= ipr.ring
+}
+
+/// 31: is the pointer word among the instruction's first 64?
+fn is_among_the_first(pointer_words_read: u32) -> bool {
+    pointer_words_read < 64
+}
+
+/// 33: ring 0, if privileged?
+fn has_the_privilege(opcode: Opcode, ipr: &Pointer) -> bool {
+    !opcode.is_privileged() || ipr.ring == 0
+}
+
+/// A no is a fault, with the address and ring under question.
+#[inline]
+fn ask(number: u8, yes: bool, at: &Pointer) -> Result<(), Fault> {
+    if yes {
+        Ok(())
+    } else {
+        Err(Fault { number, at: *at })
+    }
+}
+
+/// The descriptor of the segment that `at` uses: 11 to 15.
+#[inline]
+fn use_segment(dbr: &Dbr, memory: &[u64], at: &Pointer) -> Result<Descriptor, Fault> {
+    ask(11, has_descriptor(at, dbr), at)?;
+    let descriptor_segment = &memory[dbr.address as usize..][..usize::from(dbr.length)];
+    let segment = Descriptor::from_word(descriptor_segment[usize::from(at.segno)]);
+    ask(12, is_valid(&segment), at)?;
+    ask(13, rings_are_ordered(&segment), at)?;
+    ask(14, segment_is_within_memory(&segment, memory.len()), at)?;
+    ask(15, word_exists(at, &segment), at)?;
+    Ok(segment)
+}
+
+/// The words of a segment whose descriptor has passed.
+fn words_of<'m>(segment: &Descriptor, memory: &'m [u64]) -> &'m [u64] {
+    &memory[segment.address as usize..][..usize::from(segment.length)]
+}
+
+fn words_of_mut<'m>(segment: &Descriptor, memory: &'m mut [u64]) -> &'m mut [u64] {
+    &mut memory[segment.address as usize..][..usize::from(segment.length)]
+}
+
+// ---- One step.
+
+/// 1. Fetch at IPR: 11 to 15, 21. The questions 32 and 33 of the instruction follow in `decode`.
+#[inline]
+pub fn fetch(registers: &Registers, memory: &[u64]) -> Result<Instruction, Fault> {
+    let ipr = &registers.ipr;
+    let segment = use_segment(&registers.dbr, memory, ipr)?;
+    ask(21, may_execute(&segment, ipr.ring), ipr)?;
+    Ok(Instruction::from_word(words_of(&segment, memory)[usize::from(ipr.wordno)]))
+}
+
+/// 32: opcode in the table? Then 33.
+#[inline]
+fn decode(instruction: &Instruction, ipr: &Pointer) -> Result<Opcode, Fault> {
+    let Some(opcode) = Opcode::from_number(instruction.opcode) else {
+        return Err(Fault { number: 32, at: *ipr });
+    };
+    ask(33, has_the_privilege(opcode, ipr), ipr)?;
+    Ok(opcode)
+}
+
+/// 2. and 3. Form TPR, the address with its effective ring.
+#[inline]
+fn form_tpr(registers: &Registers, memory: &[u64], instruction: &Instruction) -> Result<Pointer, Fault> {
+    let ipr = &registers.ipr;
+    let mut tpr = if instruction.p {
+        let pr = &registers.pr[usize::from(instruction.prnum)];
+        Pointer { ring: ipr.ring.max(pr.ring), ..*pr }
+    } else {
+        *ipr
+    };
+    tpr.wordno = tpr.wordno.wrapping_add(instruction.offset);
+
+    let mut i = instruction.i;
+    let mut pointer_words_read = 0;
+    while i {
+        ask(31, is_among_the_first(pointer_words_read), &tpr)?;
+        let segment = use_segment(&registers.dbr, memory, &tpr)?;
+        ask(22, may_read(&segment, tpr.ring), &tpr)?;
+        let pointer_word = PointerWord::from_word(words_of(&segment, memory)[usize::from(tpr.wordno)]);
+        let pointer = pointer_word.pointer;
+        tpr = Pointer { ring: tpr.ring.max(pointer.ring).max(segment.r1), ..pointer };
+        i = pointer_word.i;
+        pointer_words_read += 1;
+    }
+    Ok(tpr)
+}
+
+/// Reads the word at TPR: 11 to 15, 22.
+fn read(registers: &Registers, memory: &[u64], tpr: &Pointer) -> Result<u64, Fault> {
+    let segment = use_segment(&registers.dbr, memory, tpr)?;
+    ask(22, may_read(&segment, tpr.ring), tpr)?;
+    Ok(words_of(&segment, memory)[usize::from(tpr.wordno)])
+}
+
+/// Writes the word at TPR: 11 to 15, 23.
+fn write(registers: &Registers, memory: &mut [u64], tpr: &Pointer, word: u64) -> Result<(), Fault> {
+    let segment = use_segment(&registers.dbr, memory, tpr)?;
+    ask(23, may_write(&segment, tpr.ring), tpr)?;
+    words_of_mut(&segment, memory)[usize::from(tpr.wordno)] = word;
+    Ok(())
+}
+
+/// AOS: 11 to 15, 22, then 23; only then is anything stored.
+fn add_one_to_storage(registers: &Registers, memory: &mut [u64], tpr: &Pointer) -> Result<(), Fault> {
+    let segment = use_segment(&registers.dbr, memory, tpr)?;
+    ask(22, may_read(&segment, tpr.ring), tpr)?;
+    ask(23, may_write(&segment, tpr.ring), tpr)?;
+    let word = &mut words_of_mut(&segment, memory)[usize::from(tpr.wordno)];
+    *word = word.wrapping_add(1);
+    Ok(())
+}
+
+/// A transfer that is taken: 11 to 15, 24, 25. It keeps the ring.
+fn transfer(registers: &mut Registers, memory: &[u64], tpr: &Pointer) -> Result<(), Fault> {
+    let segment = use_segment(&registers.dbr, memory, tpr)?;
+    ask(24, keeps_the_ring(tpr, &registers.ipr), tpr)?;
+    ask(25, may_execute(&segment, tpr.ring), tpr)?;
+    registers.ipr = *tpr;
+    Ok(())
+}
+
+/// CALL: 11 to 15, 26 to 30.
+fn call(registers: &mut Registers, memory: &[u64], tpr: &Pointer) -> Result<(), Fault> {
+    let segment = use_segment(&registers.dbr, memory, tpr)?;
+    let new_ring = tpr.ring.min(segment.r2);
+    ask(26, is_executable(&segment), tpr)?;
+    ask(27, enters_at_a_gate(&segment, tpr, &registers.ipr), tpr)?;
+    ask(28, is_within_gate_extension(&segment, tpr), tpr)?;
+    ask(29, is_not_below_execute_bracket(&segment, tpr), tpr)?;
+    ask(30, does_not_raise_the_ring(new_ring, &registers.ipr), tpr)?;
+    registers.ipr = Pointer { ring: new_ring, ..*tpr };
+    registers.pr[7] = Pointer { ring: new_ring, segno: u16::from(new_ring), wordno: 0 };
+    Ok(())
+}
+
+/// RETURN: 11 to 15, 25.
+fn return_to(registers: &mut Registers, memory: &[u64], tpr: &Pointer) -> Result<(), Fault> {
+    let segment = use_segment(&registers.dbr, memory, tpr)?;
+    ask(25, may_execute(&segment, tpr.ring), tpr)?;
+    registers.ipr = *tpr;
+    for pr in &mut registers.pr {
+        pr.ring = pr.ring.max(tpr.ring);
+    }
+    Ok(())
+}
+
+/// LDBR: 11 to 15, 22, 34.
+fn load_dbr(registers: &mut Registers, memory: &[u64], tpr: &Pointer) -> Result<(), Fault> {
+    let dbr = Dbr::from_word(read(registers, memory, tpr)?);
+    ask(34, descriptor_segment_is_allowed(dbr, memory.len()), tpr)?;
+    registers.dbr = dbr;
+    Ok(())
+}
+
+/// The instruction at IPR, when 1 to 4 have passed. A fault leaves registers and memory as they were.
+#[inline]
+fn perform(registers: &mut Registers, memory: &mut [u64]) -> Result<Completed, Fault> {
+    let instruction = fetch(registers, memory)?;
+    let opcode = decode(&instruction, &registers.ipr)?;
+
+    // No operand.
+    match opcode {
+        Opcode::Ldi => {
+            registers.a = u64::from(instruction.lit);
+            advance(registers);
+            return Ok(Completed::GoOn);
+        }
+        Opcode::Hlt => {
+            advance(registers);
+            return Ok(Completed::Halt);
+        }
+        _ => {}
+    }
+
+    let tpr = &form_tpr(registers, memory, &instruction)?;
+    let reg = usize::from(instruction.reg);
+    // 4. Perform. Where control moves, IPR isn't advanced.
+    match opcode {
+        Opcode::Lda => registers.a = read(registers, memory, tpr)?,
+        Opcode::Sta => write(registers, memory, tpr, registers.a)?,
+        Opcode::Ada => registers.a = registers.a.wrapping_add(read(registers, memory, tpr)?),
+        Opcode::Sba => registers.a = registers.a.wrapping_sub(read(registers, memory, tpr)?),
+        Opcode::Ana => registers.a &= read(registers, memory, tpr)?,
+        Opcode::Ora => registers.a |= read(registers, memory, tpr)?,
+        Opcode::Xra => registers.a ^= read(registers, memory, tpr)?,
+        Opcode::Cnt => registers.a = u64::from(read(registers, memory, tpr)?.count_ones()),
+        Opcode::Aos => add_one_to_storage(registers, memory, tpr)?,
+        Opcode::Eap => registers.pr[reg] = *tpr,
+        Opcode::Spp => {
+            let pointer_word = PointerWord { pointer: registers.pr[reg], i: false };
+            write(registers, memory, tpr, pointer_word.to_word())?;
+        }
+        Opcode::Tra | Opcode::Tze | Opcode::Tmi => {
+            let is_taken = match opcode {
+                Opcode::Tze => registers.a == 0,
+                Opcode::Tmi => registers.a >> 63 == 1,
+                _ => true,
+            };
+            if is_taken {
+                transfer(registers, memory, tpr)?;
+                return Ok(Completed::GoOn);
+            }
+        }
+        Opcode::Call => {
+            call(registers, memory, tpr)?;
+            return Ok(Completed::GoOn);
+        }
+        Opcode::Return => {
+            return_to(registers, memory, tpr)?;
+            return Ok(Completed::GoOn);
+        }
+        Opcode::Ldbr => load_dbr(registers, memory, tpr)?,
+        // Performed above.
+        Opcode::Ldi | Opcode::Hlt => {}
+    }
+    advance(registers);
+    Ok(Completed::GoOn)
+}
+
+/// IPR.WORDNO goes up by one modulo 65,536.
+fn advance(registers: &mut Registers) {
+    registers.ipr.wordno = registers.ipr.wordno.wrapping_add(1);
+}
+
+// ---- A run.
+
+/// A run of one step.
+pub fn step(registers: &mut Registers, memory: &mut [u64]) -> Reply {
+    run(registers, memory, 1)
+}
+
+/// Steps until HLT, a fault, or the budget is spent. The count is the number of completed steps.
+pub fn run(registers: &mut Registers, memory: &mut [u64], budget: u32) -> Reply {
+    if let Err(number) = refusal(registers, memory.len()) {
+        return Reply::Refused { number };
+    }
+    for count in 0..budget {
+        match perform(registers, memory) {
+            Ok(Completed::GoOn) => {}
+            Ok(Completed::Halt) => return Reply::Halted { count: count + 1 },
+            Err(fault) => return Reply::Fault { fault, count },
+        }
+    }
+    Reply::Spent { count: budget }
+}

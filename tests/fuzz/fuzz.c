@@ -1,0 +1,99 @@
+/* A fuzzer's input compared: the plain C processor, built for coverage, and the library must give the same answer, registers
+ * and memory, byte for byte. An input's first byte says whether the rest is an image or a register record and a memory. */
+#include "images.h"
+#include "kuzhlemor.h"
+#include "plain.h"
+#include "same.h"
+#include "words.h"
+
+#include <stdio.h>
+#include <stdlib.h>
+#include <string.h>
+
+enum {
+    WORDS = 256,
+    BUDGET = 200,
+    TEXT = 64 * (BUDGET + 1) + 32,
+    RECORD = 59
+};
+
+static void require(int same, const char *what)
+{
+    if (!same) {
+        fprintf(stderr, "fuzz: different: %s\n", what);
+        abort();
+    }
+}
+
+/* A text buffer a little short, just right or longer, so that 45 is reached from both sides. */
+static void compare_images(const uint8_t *image, size_t length, uint8_t how)
+{
+    static uint8_t x[TEXT];
+    static uint8_t y[TEXT];
+    size_t room = how & 1 ? 64 * (size_t)(how >> 1) : TEXT - (how >> 1) % 64;
+    int64_t plain;
+    int64_t library;
+
+    memset(x, 0xa5, sizeof x);
+    memset(y, 0xa5, sizeof y);
+    plain = plain_bench(image, length, x, room);
+    library = kuzhlemor_bench(image, length, y, room);
+    require(plain == library, "the bench's answer");
+    require(memcmp(x, y, sizeof x) == 0, "a byte of the buffer");
+}
+
+static uint64_t number(const uint8_t *bytes, size_t count)
+{
+    uint64_t value = 0;
+
+    for (size_t k = 0; k < count; k++)
+        value = value << 8 | bytes[k];
+    return value;
+}
+
+static kuzhlemor_pointer pointer(const uint8_t *bytes)
+{
+    return (kuzhlemor_pointer){bytes[0], (uint16_t)number(bytes + 1, 2), (uint16_t)number(bytes + 3, 2)};
+}
+
+/* The record of an ST, then the words of memory; a run, and the same by single steps. */
+static void compare_machines(const uint8_t *bytes, size_t length, uint8_t how)
+{
+    static uint64_t x[WORDS];
+    static uint64_t y[WORDS];
+    kuzhlemor_registers r = {0};
+    kuzhlemor_registers s;
+    size_t words;
+    uint32_t budget = how >> 1;
+
+    if (length < RECORD)
+        return;
+    r.a = number(bytes, 8);
+    r.dbr = (kuzhlemor_dbr){(uint32_t)number(bytes + 8, 4), (uint16_t)number(bytes + 12, 2)};
+    r.ipr = pointer(bytes + 14);
+    for (size_t k = 0; k < 8; k++)
+        r.prs[k] = pointer(bytes + 19 + 5 * k);
+    words = (length - RECORD) / 8;
+    if (words > WORDS)
+        words = WORDS;
+    for (size_t k = 0; k < words; k++)
+        x[k] = y[k] = number(bytes + RECORD + 8 * k, 8);
+    s = r;
+    require(same_reply(plain_run(&r, x, words, budget), kuzhlemor_run(&s, y, words, budget)), "a run's reply");
+    require(same_registers(&r, &s), "the registers after a run");
+    require(memcmp(x, y, 8 * words) == 0, "a word after a run");
+    require(same_reply(plain_step(&r, x, words), kuzhlemor_step(&s, y, words)), "a step's reply");
+    require(same_registers(&r, &s), "the registers after a step");
+    require(memcmp(x, y, 8 * words) == 0, "a word after a step");
+}
+
+int LLVMFuzzerTestOneInput(const uint8_t *data, size_t size)
+{
+    if (size < 2)
+        return 0;
+    if (data[0] & 1)
+        compare_images(data + 2, size - 2, data[1]);
+    else
+        compare_machines(data + 2, size - 2, data[1]);
+    return 0;
+}
