@@ -1,5 +1,5 @@
-/* The library's time against the plain C processor's, on four programs that loop until the budget is spent, on single
- * steps, and on listings. Both run in turn from the same start, the best time of each counts, and both must end alike. */
+/* The library's time against a plain C and a plain Rust processor's, on four programs that loop until the budget is spent, on
+ * single steps, and on listings. They run in turn from the same start, the best time of each counts, and all must end alike. */
 #define _POSIX_C_SOURCE 199309L
 
 #include "images.h"
@@ -25,12 +25,20 @@ typedef struct {
 
 typedef kuzhlemor_reply run_function(kuzhlemor_registers *, uint64_t *, size_t, uint32_t);
 
+/* The second implementation, in Rust (bench/rust). */
+run_function rust_run;
+typedef int64_t bench_function(const uint8_t *, size_t, uint8_t *, size_t);
+bench_function rust_bench;
+
+enum {
+    PLAIN, RUST, LIBRARY, CONTESTANTS
+};
+
 typedef struct {
     const char *name;
     machine (*make)(void);
     uint32_t steps;
-    run_function *plain;
-    run_function *library;
+    run_function *runs[CONTESTANTS];
 } row;
 
 /* Segment 4 holds the program, in ring 4, segment 5 its data; PR1 to PR3 point to words 0, 16 and 32 of the data. */
@@ -152,6 +160,16 @@ static kuzhlemor_reply plain_steps(kuzhlemor_registers *registers, uint64_t *mem
     return by_steps(plain_step, registers, memory, words, steps);
 }
 
+static kuzhlemor_reply rust_step(kuzhlemor_registers *registers, uint64_t *memory, size_t words)
+{
+    return rust_run(registers, memory, words, 1);
+}
+
+static kuzhlemor_reply rust_steps(kuzhlemor_registers *registers, uint64_t *memory, size_t words, uint32_t steps)
+{
+    return by_steps(rust_step, registers, memory, words, steps);
+}
+
 static kuzhlemor_reply library_steps(kuzhlemor_registers *registers, uint64_t *memory, size_t words, uint32_t steps)
 {
     return by_steps(kuzhlemor_step, registers, memory, words, steps);
@@ -186,39 +204,37 @@ static void keep_least(double *best, double time)
         *best = time;
 }
 
-static void print_row(const char *name, uint32_t steps, double plain, double library)
+static void print_row(const char *name, uint32_t steps, const double *best)
 {
-    printf("%-32s %12.2f %12.2f %16.2f\n", name, plain / steps, library / steps, library / plain);
+    printf("%-32s %10.2f %10.2f %10.2f %12.2f %12.2f\n", name, best[PLAIN] / steps, best[RUST] / steps,
+           best[LIBRARY] / steps, best[LIBRARY] / best[PLAIN], best[LIBRARY] / best[RUST]);
 }
 
 static void differ(const char *name)
 {
-    fprintf(stderr, "bench: %s: the two ended differently, or before the budget was spent\n", name);
+    fprintf(stderr, "bench: %s: they ended differently, or before the budget was spent\n", name);
     exit(1);
 }
 
 static void measure(const row *r)
 {
+    static machine ends[CONTESTANTS];
     machine from = r->make();
-    double best_plain = 0;
-    double best_library = 0;
+    double best[CONTESTANTS] = {0};
 
     for (int round = 0; round < ROUNDS; round++) {
-        machine x;
-        machine y;
-        kuzhlemor_reply s;
-        kuzhlemor_reply t;
+        kuzhlemor_reply replies[CONTESTANTS];
 
-        keep_least(&best_plain, timed(r->plain, &from, r->steps, &x, &s));
-        keep_least(&best_library, timed(r->library, &from, r->steps, &y, &t));
-        if (s.kind != KUZHLEMOR_SPENT || !same_reply(s, t) || !same_registers(&x.registers, &y.registers) ||
-            memcmp(x.memory, y.memory, sizeof x.memory) != 0)
-            differ(r->name);
+        for (int k = 0; k < CONTESTANTS; k++)
+            keep_least(&best[k], timed(r->runs[k], &from, r->steps, &ends[k], &replies[k]));
+        for (int k = 0; k < CONTESTANTS; k++)
+            if (replies[k].kind != KUZHLEMOR_SPENT || !same_reply(replies[k], replies[0]) ||
+                !same_registers(&ends[k].registers, &ends[0].registers) ||
+                memcmp(ends[k].memory, ends[0].memory, sizeof ends[0].memory) != 0)
+                differ(r->name);
     }
-    print_row(r->name, r->steps, best_plain, best_library);
+    print_row(r->name, r->steps, best);
 }
-
-typedef int64_t bench_function(const uint8_t *, size_t, uint8_t *, size_t);
 
 enum {
     LISTED = 20000,
@@ -235,38 +251,37 @@ static double timed_listing(bench_function *bench, const uint8_t *image, size_t 
 
 static void measure_listing(const char *name, machine (*make)(void))
 {
+    static bench_function *const benches[CONTESTANTS] = {plain_bench, rust_bench, kuzhlemor_bench};
     static uint8_t image[IMAGE_ROOM(WORDS)];
-    static uint8_t x[TEXT];
-    static uint8_t y[TEXT];
+    static uint8_t texts[CONTESTANTS][TEXT];
     machine from = make();
     size_t length = put_image(image, &from.registers, from.memory, WORDS, LISTED);
-    double best_plain = 0;
-    double best_library = 0;
+    double best[CONTESTANTS] = {0};
 
     for (int round = 0; round < ROUNDS; round++) {
-        int64_t s;
-        int64_t t;
+        int64_t answers[CONTESTANTS];
 
-        keep_least(&best_plain, timed_listing(plain_bench, image, length, x, &s));
-        keep_least(&best_library, timed_listing(kuzhlemor_bench, image, length, y, &t));
-        if (s <= 0 || s != t || memcmp(x, y, sizeof x) != 0)
-            differ(name);
+        for (int k = 0; k < CONTESTANTS; k++)
+            keep_least(&best[k], timed_listing(benches[k], image, length, texts[k], &answers[k]));
+        for (int k = 0; k < CONTESTANTS; k++)
+            if (answers[k] <= 0 || answers[k] != answers[0] || memcmp(texts[k], texts[0], TEXT) != 0)
+                differ(name);
     }
-    print_row(name, LISTED, best_plain, best_library);
+    print_row(name, LISTED, best);
 }
 
 int main(void)
 {
     static const row rows[] = {
-        {"arithmetic", arithmetic, 100000, plain_run, kuzhlemor_run},
-        {"loads and stores", loads_and_stores, 100000, plain_run, kuzhlemor_run},
-        {"calls and returns", calls_and_returns, 100000, plain_run, kuzhlemor_run},
-        {"pointer chains", pointer_chains, 5000, plain_run, kuzhlemor_run},
-        {"loads and stores, single steps", loads_and_stores, 100000, plain_steps, library_steps},
+        {"arithmetic", arithmetic, 100000, {plain_run, rust_run, kuzhlemor_run}},
+        {"loads and stores", loads_and_stores, 100000, {plain_run, rust_run, kuzhlemor_run}},
+        {"calls and returns", calls_and_returns, 100000, {plain_run, rust_run, kuzhlemor_run}},
+        {"pointer chains", pointer_chains, 5000, {plain_run, rust_run, kuzhlemor_run}},
+        {"loads and stores, single steps", loads_and_stores, 100000, {plain_steps, rust_steps, library_steps}},
     };
 
-    printf("%-32s %12s %12s %16s\n", "", "plain C", "library", "ratio");
-    printf("%-32s %12s %12s %16s\n", "program", "ns a step", "ns a step", "library/plain C");
+    printf("%-32s %10s %10s %10s %12s %12s\n", "", "C", "Rust", "library", "library/C", "library/Rust");
+    printf("%-32s %10s %10s %10s\n", "program", "ns a step", "ns a step", "ns a step");
     for (size_t k = 0; k < sizeof rows / sizeof rows[0]; k++)
         measure(&rows[k]);
     measure_listing("arithmetic, listed", arithmetic);
