@@ -6,4 +6,5 @@ pub mod BytesLaws
 pub mod LineLaws
 pub mod LastLineLaws
 pub mod LengthLaws
+pub mod ChunkLaws
 pub mod ListedLaws

@@ -65,7 +65,7 @@ fn put_named(text: &mut [u8], at: usize, name: &[u8], v: u32, after: u8) -> usiz
 }
 
 // A fault's number, the count of completed steps, and the pointer that faulted.
-// It doesn't call `put_step_line`, so that this has one caller and the compiler merges it into the loop of a run.
+// It doesn't call `put_step_line`, so that this has one caller and the compiler merges it into the loop over a trace.
 fn put_fault_line(text: &mut [u8], at: usize, n: u8, count: u32, t: Pointer) -> usize
     requires { ⌜ (at + 64 ≤ length (now text)) × Pointer-within t ⌝ }
     ensures { λ r. ⌜ Put 64 at (last-line (fault n count (as-pointer t))) (now (text .entry)) (now (text .exit)) r ⌝ }

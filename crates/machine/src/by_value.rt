@@ -1,32 +1,15 @@
 // A run and a step by value: they ask 1 to 4, so that the host tests nothing first.
 ghost use mathlib.Core.Path.{_≡_};
 ghost use Rattle.model.specs.Run as Run;
-ghost use Rattle.model.specs.Questions.{start-questions};
-ghost use Rattle.processor.specs.View.{as-machine};
-ghost use Rattle.processor.specs.Run.{as-reply, Reply-within, Ran-as};
+ghost use Rattle.processor.specs.Run.{as-reply, Reply-within};
 ghost use Rattle.machine.specs.Record.{machine-of, as-step-reply, Step-reply-within, step-reply-of, Ran-by-value, Stepped-by-value};
 use crate::record::Registers;
 use processor::run::Reply;
-use processor::state::Core;
 
 // A run's reply with the registers after it.
 pub struct Ran {
     pub reply: Reply,
     pub registers: Registers,
-}
-
-// A run whose start has passed 1 to 4, with the table built for it.
-pub fn run_passed(
-    core: Core,
-    prs: &mut [u64; 8],
-    memory: &mut [u64],
-    budget: u32,
-) -> processor::run::Ran
-    requires { ⌜ start-questions (as-machine core (now prs) (now memory)) ≡ 0 ⌝ }
-    ensures { λ x. ⌜ Ran-as (Run.run-from budget 0 (as-machine core (now (prs .entry)) (now (memory .entry)))) x (now (prs .exit)) (now (memory .exit)) ⌝ }
-{
-    let table = words::opcodes::table();
-    processor::run::run(core, prs, memory, &table, budget)
 }
 
 // A run by value: 1 to 4 are asked once, and a no leaves registers and memory as they were.
@@ -41,9 +24,16 @@ pub fn run(registers: Registers, memory: &mut [u64], budget: u32) -> Ran
         };
     }
     let q = registers.prs;
-    let mut prs = crate::record::pr_words(q);
-    let x = run_passed(crate::record::core_of(registers), &mut prs, memory, budget);
+    let mut none: [u64; 0] = [];
+    let x = processor::run::run(
+        crate::record::core_of(registers),
+        crate::record::pr_words(q),
+        memory,
+        budget,
+        &mut none,
+    );
     let core = x.core;
+    let prs = x.prs;
     let reply = x.reply;
     Ran {
         reply,

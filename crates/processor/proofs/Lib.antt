@@ -12,3 +12,4 @@ pub mod RegisterLaws
 pub mod FetchLaws
 pub mod StepLaws
 pub mod RunLaws
+pub mod TraceLaws

@@ -1,6 +1,7 @@
 -- A run: one law for each way out of the loop and for its next turn. Assumes nothing.
-use mathlib.Core.Path.{_≡_, sym, _∙_, ap}
+use mathlib.Core.Path.{_≡_, refl, sym, _∙_, ap}
 use mathlib.Core.Bool.{true}
+use mathlib.Core.List.{List}
 use mathlib.Core.Logic.{inl, inr}
 use Prim.Native.Nat.{ℕ, suc, _+_, _-_, _≤_, _<_}
 use native.Mathlib.Omega.{arith}
@@ -18,11 +19,12 @@ use Rattle.model.proofs.QuestionLaws.{ask-yes}
 use Rattle.model.proofs.FaultLaws.{fault-pointer-within}
 use Rattle.model.proofs.SoundLaws.{step-keeps-passing}
 use Rattle.model.proofs.RunLaws.{run-faults, run-halts, run-completes}
-use Rattle.words.specs.View.{as-pointer}
+use Rattle.words.specs.View.{as-pointer, Pointer-within}
 use Rattle.words.specs.declared.pointer.Pointer.{Pointer}
+use Rattle.processor.specs.declared.state.Core.{Core}
 use Rattle.processor.specs.declared.state.End.{End}
 use Rattle.processor.specs.declared.state.End.the-variants.{Completed, Halted, Faulted}
-use Rattle.processor.specs.View.{ended}
+use Rattle.processor.specs.View.{as-machine, ended}
 
 -- WHAT 1 TO 4 GIVE
 module _ (m : Machine) (e : start-questions m ≡ 0) where
@@ -97,4 +99,16 @@ module _ (m : Machine) (x : End) (k : Machine) (s : ended m (step m) x k) (e : s
   unfolding ended
   passing-fault n t f = ap start-questions ((rw f at s) .1) ∙ e
 
-pub ruleset runs = (start-law, passing-ring, passing-segment, passing-dbr, spent-law, fault-law, halt-law, next-law, passing-next, passing-halt, passing-fault, fault-ring, fault-segment)
+-- IPR after a step is in range, however the step ends
+passing-after : (m : Machine) (x : End) (k : Machine) → ended m (step m) x k → start-questions m ≡ 0 → start-questions k ≡ 0
+passing-after m Completed k s e = passing-next m Completed k s e refl
+passing-after m Halted k s e = passing-halt m Halted k s e refl
+passing-after m (Faulted n t) k s e = passing-fault m (Faulted n t) k s e n t refl
+
+pub ipr-after : (core : Core) (prs memory : List ℕ) (m : Machine) (x : End) → ended m (step m) x (as-machine core prs memory) → start-questions m ≡ 0 →
+    Pointer-within (core .ipr)
+ipr-after core prs memory m x s e =
+    let q = passing-after m x (as-machine core prs memory) s e in
+    record { ring-within = passing-ring (as-machine core prs memory) q; segment-within = passing-segment (as-machine core prs memory) q }
+
+pub ruleset runs = (start-law, passing-ring, passing-segment, passing-dbr, spent-law, fault-law, halt-law, next-law, passing-next, passing-halt, passing-fault, fault-ring, fault-segment, ipr-after)

@@ -2,13 +2,16 @@
 ghost use mathlib.Core.Path.{_≡_};
 ghost use Rattle.model.specs.Questions.{start-questions};
 ghost use Rattle.model.specs.Run as Run;
-ghost use Rattle.words.specs.Table.{Right-table};
+ghost use Rattle.words.specs.View.{as-pointer, Pointer-within};
 ghost use Rattle.processor.specs.View.{as-machine};
-ghost use Rattle.processor.specs.Run.{Ran-as};
+ghost use Rattle.processor.specs.Run.{Noted, Ran-as, Traced};
 use crate::state::After;
 use crate::state::Core;
 use crate::state::End;
+use crate::translate::Dbr;
 use words::pointer::Pointer;
+use words::pointer::SegmentNumber;
+use words::pointer::WordNumber;
 
 // All that a run answers; the count is that of the completed steps.
 pub enum Reply {
@@ -21,28 +24,60 @@ pub enum Reply {
 pub struct Ran {
     pub reply: Reply,
     pub core: Core,
+    pub prs: [u64; 8],
+}
+
+// IPR after a step, at the step's place in the trace; a step past the trace's end leaves it alone.
+fn note(trace: &mut [u64], count: u32, p: Pointer)
+    requires { ⌜ Pointer-within p ⌝ }
+    ensures { λ _. ⌜ Noted count (as-pointer p) (now (trace .entry)) (now (trace .exit)) ⌝ }
+{
+    let i = count as usize;
+    if trace.len() <= i {
+        return;
+    }
+    trace[i] = words::pointer::encode(p);
 }
 
 // Questions 1 to 4 were asked by the caller, and hold on from step to step.
-pub fn run(core: Core, prs: &mut [u64; 8], memory: &mut [u64], table: &[u8; 42], budget: u32) -> Ran
-    requires { ⌜ (start-questions (as-machine core (now prs) (now memory)) ≡ 0) × Right-table (now table) ⌝ }
-    ensures { λ x. ⌜ Ran-as (Run.run-from budget 0 (as-machine core (now (prs .entry)) (now (memory .entry)))) x (now (prs .exit)) (now (memory .exit)) ⌝ }
+// A trace of at least the budget's length holds IPR after each completed step; a run that needs none lends an empty one.
+pub fn run(core: Core, start: [u64; 8], memory: &mut [u64], budget: u32, trace: &mut [u64]) -> Ran
+    requires { ⌜ start-questions (as-machine core start (now memory)) ≡ 0 ⌝ }
+    ensures { λ x. ⌜ Ran-as (Run.run-from budget 0 (as-machine core start (now (memory .entry)))) x (now (memory .exit)) × Traced budget (as-machine core start (now (memory .entry))) x (now (trace .entry)) (now (trace .exit)) ⌝ }
 {
+    let table = words::opcodes::table();
+    let mut prs = start;
+    // The core field by field: a whole copy would carry the padding of its record along the loop.
     let mut x = After {
-        core,
+        core: Core {
+            a: core.a,
+            dbr: Dbr {
+                address: core.dbr.address,
+                length: core.dbr.length,
+            },
+            ipr: Pointer {
+                ring: core.ipr.ring,
+                segment: SegmentNumber(core.ipr.segment.0),
+                word: WordNumber(core.ipr.word.0),
+            },
+        },
         end: End::Completed,
     };
     let mut count: u32 = 0;
     while count < budget {
-        x = crate::step::step(x.core, prs, memory, table);
+        x = crate::step::step(x.core, &mut prs, memory, &table);
         let end = x.end;
         match end {
-            End::Completed => {}
+            End::Completed => {
+                note(trace, count, x.core.ipr);
+            }
             End::Halted => {
+                note(trace, count, x.core.ipr);
                 let after = x.core;
                 return Ran {
                     reply: Reply::Halted(count + 1),
                     core: after,
+                    prs,
                 };
             }
             End::Faulted(n, t) => {
@@ -50,6 +85,7 @@ pub fn run(core: Core, prs: &mut [u64; 8], memory: &mut [u64], table: &[u8; 42],
                 return Ran {
                     reply: Reply::Fault(n, count, t),
                     core: after,
+                    prs,
                 };
             }
         }
@@ -59,5 +95,6 @@ pub fn run(core: Core, prs: &mut [u64; 8], memory: &mut [u64], table: &[u8; 42],
     Ran {
         reply: Reply::Spent(count),
         core: after,
+        prs,
     }
 }

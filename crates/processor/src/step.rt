@@ -51,7 +51,7 @@ pub fn kind_answer(kind: Kind, ring: u64) -> u8
 }
 
 // 11 to 15, 21, 32 and 33.
-pub fn fetch(core: Core, memory: &[u64], table: &[u8; 42]) -> Fetched
+pub fn fetch(core: Core, memory: &[u64], table: &[u8; 256]) -> Fetched
     requires { ⌜ Ready core (now memory) × Right-table (now table) ⌝ }
     ensures { λ x. ⌜ fetched-with-any-prs core (now (memory .entry)) x ⌝ }
 {
@@ -129,7 +129,7 @@ pub fn obey(core: Core, prs: &mut [u64; 8], memory: &mut [u64], w: u64, kind: Ki
 }
 
 // The step. Questions 1 to 4 were asked before the run and hold on.
-pub fn step(core: Core, prs: &mut [u64; 8], memory: &mut [u64], table: &[u8; 42]) -> After
+pub fn step(core: Core, prs: &mut [u64; 8], memory: &mut [u64], table: &[u8; 256]) -> After
     requires { ⌜ Ready core (now memory) × Right-table (now table) ⌝ }
     ensures { λ x. ⌜ ended (as-machine core (now (prs .entry)) (now (memory .entry))) (Step.step (as-machine core (now (prs .entry)) (now (memory .entry)))) (x .end) (as-machine (x .core) (now (prs .exit)) (now (memory .exit))) ⌝ }
 {

@@ -86,7 +86,6 @@ fn print_listing(core: Core, start: [u64; 8], memory: &mut [u64], budget: u32)
 {
     let mut text = io::large_buffer();
     let mut prs = start;
-    let table = words::opcodes::table();
     let mut x = Listed {
         line: Line {
             core,
@@ -97,15 +96,7 @@ fn print_listing(core: Core, start: [u64; 8], memory: &mut [u64], budget: u32)
     };
     let mut turns = u64::MAX;
     while turns > 0 {
-        x = listing::list::list(
-            x.line.core,
-            &mut prs,
-            memory,
-            &table,
-            x.count,
-            budget,
-            &mut text,
-        );
+        x = listing::list::list(x.line.core, &mut prs, memory, x.count, budget, &mut text);
         let size = x.line.length;
         if !io::write_all(STDOUT_FILENO, &text[..size]) {
             return;

@@ -138,45 +138,14 @@ told-from (n ∷ ns) i (suc j) t h =
     subst (λ z. Told z (kind-numbered (getD ns j 0))) (suc-add i j ∙ sym (add-suc i j))
     (told-from ns (suc i) j (and-right (eqb n (number-of (kind-for i))) (right-from (suc i) ns) t) (le-of-suc-le-suc h))
 
-pub right-table : (ns : List ℕ) → right-from 0 ns ≡ true → length ns ≡ 42 → Right-table ns
+pub right-table : (ns : List ℕ) → right-from 0 ns ≡ true → length ns ≡ 256 → Right-table ns
 unfolding Right-table
 right-table ns t e o h = subst (λ z. Told z (kind-numbered (getD ns o 0))) (zero-add o) (told-from ns 0 o t (omega arith))
 
--- AN OPCODE LOOKED UP: in the table, or past its end
-pub table-law : (ns : List ℕ) (o : ℕ) (k : Kind) → Right-table ns → o < 42 → k ≡ kind-numbered (getD ns o 0) → Told o k
+-- AN OPCODE LOOKED UP
+pub table-law : (ns : List ℕ) (o : ℕ) (k : Kind) → Right-table ns → o < 256 → k ≡ kind-numbered (getD ns o 0) → Told o k
 unfolding Right-table
 table-law ns o k right h e = subst (Told o) (sym e) (right o h)
-
-pub past-law : (n : ℕ) → 42 ≤ n → Told n Unknown
-unfolding by-computation
-past-law n h = subst (Told n) (kind-for-outside n out) (kind-for-is-told n)
-  where
-    differs : (k : ℕ) → k < 42 → n ≡ k → ⊥
-    differs k g e = omega arith
-
-    out : Outside n
-    out =
-        record {
-          lda = differs 1 (omega arith);
-          sta = differs 2 (omega arith);
-          ada = differs 3 (omega arith);
-          sba = differs 4 (omega arith);
-          ana = differs 5 (omega arith);
-          ora = differs 6 (omega arith);
-          xra = differs 7 (omega arith);
-          cnt = differs 8 (omega arith);
-          aos = differs 9 (omega arith);
-          ldi = differs 10 (omega arith);
-          eap = differs 16 (omega arith);
-          spp = differs 17 (omega arith);
-          tra = differs 24 (omega arith);
-          tze = differs 25 (omega arith);
-          tmi = differs 26 (omega arith);
-          call = differs 32 (omega arith);
-          return = differs 33 (omega arith);
-          ldbr = differs 40 (omega arith);
-          hlt = differs 41 (omega arith);
-        }
 
 -- A KIND BY ITS NUMBER, for each arm
 pub kind-at : (n i : ℕ) → n ≡ i → kind-numbered i ≡ kind-numbered n

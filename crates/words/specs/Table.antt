@@ -68,7 +68,7 @@ kind-numbered n =
     (cond (eqb n 6) Call (cond (eqb n 7) Return (cond (eqb n 8) Dbr (cond (eqb n 9) Halt (cond (eqb n 10) Literal Unknown))))))))))
 
 unfoldable pub Right-table : List ℕ → Type 0
-Right-table numbers = (opcode : ℕ) → opcode < 42 → Told opcode (kind-numbered (getD numbers opcode 0))
+Right-table numbers = (opcode : ℕ) → opcode < 256 → Told opcode (kind-numbered (getD numbers opcode 0))
 
 -- does it form an address?
 abbrev pub operand : Kind → Bool

@@ -10,17 +10,14 @@ use Rattle.simulate.proofs.print_listing.Statement.{statement}
 use Rattle.simulate.proofs.print_listing.Tie as tie
 
 abbrev Inv-loop : tie.InvT-loop
-Inv-loop memory₀ budget text₀ prs₀ table x₀ turns₀ memory text prs x turns =
+Inv-loop memory₀ budget text₀ prs₀ x₀ turns₀ memory text prs x turns =
     (65536 ≡ length text) × (x .count ≤ budget) × (length memory ≡ length memory₀) × (start-questions (as-machine (x .line .core) prs memory) ≡ 0)
 
 abbrev μ-loop : tie.MeasureT-loop
-μ-loop memory₀ budget text₀ prs₀ table x₀ turns₀ memory text prs x turns = turns
+μ-loop memory₀ budget text₀ prs₀ x₀ turns₀ memory text prs x turns = turns
 
 large-buffer-requires : tie.Need-large-buffer-requires Inv-loop μ-loop
 large-buffer-requires c κs = search (needs, prints)
-
-table-requires : tie.Need-table-requires Inv-loop μ-loop
-table-requires c κs = search (needs, prints)
 
 loop-holds : tie.Need-loop-holds Inv-loop μ-loop
 loop-holds c = search (needs, prints)
@@ -74,7 +71,6 @@ print-listing-spec =
     Inv-loop
     μ-loop
     large-buffer-requires
-    table-requires
     loop-holds
     slice-aggregate-list
     list-requires

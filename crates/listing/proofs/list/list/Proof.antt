@@ -13,20 +13,20 @@ use Rattle.listing.proofs.list.list.Statement.{statement}
 use Rattle.listing.proofs.list.list.Tie as tie
 
 abbrev Inv-loop : tie.InvT-loop
-Inv-loop prs₀ memory₀ table count budget text₀ x₀ done₀ prs memory text x done =
+Inv-loop prs₀ memory₀ count budget text₀ x₀ done₀ prs memory text x done =
     (done ≤ budget) × (count ≤ done) × (x .«is_last» ≡ false) × (length memory ≡ length memory₀) × (length text ≡ length text₀)
     × (x .length ≤ length text) × (x .length ≤ 64 * (done - count)) × (drop (x .length) text ≡ drop (x .length) text₀)
     × (start-questions (as-machine (x .core) prs memory) ≡ 0)
     × (take (x .length) text ++ text-from (budget - done) done (as-machine (x .core) prs memory) ≡ text-from (budget - count) count (as-machine (x₀ .core) prs₀ memory₀))
 
 abbrev μ-loop : tie.MeasureT-loop
-μ-loop prs₀ memory₀ table count budget text₀ x₀ done₀ prs memory text x done = budget - done
+μ-loop prs₀ memory₀ count budget text₀ x₀ done₀ prs memory text x done = budget - done
 
 loop-holds : tie.Need-loop-holds Inv-loop μ-loop
 loop-holds c = search (needs, lines-of-a-run)
 
-sub-if1 : tie.Need-sub-if1 Inv-loop μ-loop
-sub-if1 c = search (needs, lines-of-a-run)
+sub-room : tie.Need-sub-room Inv-loop μ-loop
+sub-room c = search (needs, lines-of-a-run)
 
 same-length : tie.Need-same-length Inv-loop μ-loop
 same-length c = search (needs, lines-of-a-run)
@@ -37,8 +37,14 @@ same-length-2 c = search (needs, lines-of-a-run)
 returns : tie.Need-returns Inv-loop μ-loop
 returns c = search (needs, lines-of-a-run)
 
-list-step-requires : tie.Need-list-step-requires Inv-loop μ-loop
-list-step-requires c κs = search (needs, lines-of-a-run)
+sub-chunk-of : tie.Need-sub-chunk-of Inv-loop μ-loop
+sub-chunk-of c = search (needs, lines-of-a-run)
+
+chunk-of-requires : tie.Need-chunk-of-requires Inv-loop μ-loop
+chunk-of-requires c κs = search (needs, lines-of-a-run)
+
+list-chunk-requires : tie.Need-list-chunk-requires Inv-loop μ-loop
+list-chunk-requires c κs = search (needs, lines-of-a-run)
 
 same-length-3 : tie.Need-same-length-3 Inv-loop μ-loop
 same-length-3 c = search (needs, lines-of-a-run)
@@ -57,7 +63,7 @@ loop-less c = search (needs, lines-of-a-run)
 
 loop-again : tie.Need-loop-again Inv-loop μ-loop
 loop-again c =
-    (search (needs, lines-of-a-run), search (needs, lines-of-a-run), search (needs, lines-of-a-run), search (needs, lines-of-a-run), search (needs, lines-of-a-run), search (needs, lines-of-a-run), next-far (c .before .before .before .before .before .before .before .before .before .before .before .before .before .before .args .count) (c .before .before .before .before .before .list-step .ensures) (search needs) (search needs) (search needs), search (needs, lines-of-a-run), search (needs, lines-of-a-run), search (needs, lines-of-a-run))
+    (search (needs, lines-of-a-run), search (needs, lines-of-a-run), search (needs, lines-of-a-run), search (needs, lines-of-a-run), search (needs, lines-of-a-run), search (needs, lines-of-a-run), next-far _ (c .before .before .before .before .before .list-chunk .ensures) (search needs) (search needs) (search needs), search (needs, lines-of-a-run), search (needs, lines-of-a-run), search (needs, lines-of-a-run))
 
 sub-if3 : tie.Need-sub-if3 Inv-loop μ-loop
 sub-if3 c = search (needs, lines-of-a-run)
@@ -90,11 +96,13 @@ list-spec =
     Inv-loop
     μ-loop
     loop-holds
-    sub-if1
+    sub-room
     same-length
     same-length-2
     returns
-    list-step-requires
+    sub-chunk-of
+    chunk-of-requires
+    list-chunk-requires
     same-length-3
     same-length-4
     returns-2

@@ -4,9 +4,6 @@ use Rattle.listing.proofs.ListedLaws.{whole-listings}
 use Rattle.listing.proofs.list.list_whole.Statement.{statement}
 use Rattle.listing.proofs.list.list_whole.Tie as tie
 
-table-requires : tie.Need-table-requires
-table-requires c κs = search needs
-
 list-requires : tie.Need-list-requires
 list-requires c κs = search needs
 
@@ -20,5 +17,4 @@ returns : tie.Need-returns
 returns c = search (needs, whole-listings)
 
 pub list-whole-spec : {M : Type 1} → statement M
-list-whole-spec =
-    tie.close (tie.spec table-requires list-requires same-length same-length-2 returns)
+list-whole-spec = tie.close (tie.spec list-requires same-length same-length-2 returns)

@@ -13,14 +13,17 @@ same-length c = search needs
 returns : tie.Need-returns
 returns c = search (needs, runs-by-value)
 
-pr-words-requires : tie.Need-pr-words-requires
-pr-words-requires c κs = search (needs, runs-by-value)
-
 core-of-requires : tie.Need-core-of-requires
 core-of-requires c κs = search needs
 
-run-passed-requires : tie.Need-run-passed-requires
-run-passed-requires c κs = search (needs, runs-by-value)
+pr-words-requires : tie.Need-pr-words-requires
+pr-words-requires c κs = search (needs, runs-by-value)
+
+slice-aggregate-run : tie.Need-slice-aggregate-run
+slice-aggregate-run c = search needs
+
+run-requires : tie.Need-run-requires
+run-requires c κs = search (needs, runs-by-value)
 
 record-of-requires : tie.Need-record-of-requires
 record-of-requires c κs = search (needs, runs-by-value)
@@ -38,9 +41,10 @@ run-spec =
     start-answer-requires
     same-length
     returns
-    pr-words-requires
     core-of-requires
-    run-passed-requires
+    pr-words-requires
+    slice-aggregate-run
+    run-requires
     record-of-requires
     same-length-2
     returns-2)

@@ -1,6 +1,6 @@
 -- `opcodes::kind_of` meets its contract. Assumes nothing.
 use borrow.Author.Needs.{needs}
-use Rattle.words.proofs.OpcodeLaws.{table-law, past-law}
+use Rattle.words.proofs.OpcodeLaws.{table-law}
 use Rattle.words.proofs.opcodes.kind_of.Statement.{statement}
 use Rattle.words.proofs.opcodes.kind_of.Tie as tie
 
@@ -13,8 +13,5 @@ kind-numbered-requires c κs = search needs
 returns : tie.Need-returns
 returns c = search (needs, table-law)
 
-returns-2 : tie.Need-returns-2
-returns-2 c = search (needs, past-law)
-
 pub kind-of-spec : {M : Type 1} → statement M
-kind-of-spec = tie.close (tie.spec element-copy-out-kind-numbered kind-numbered-requires returns returns-2)
+kind-of-spec = tie.close (tie.spec element-copy-out-kind-numbered kind-numbered-requires returns)
