@@ -72,8 +72,8 @@ pub fn run(core: Core, start: [u64; 8], memory: &mut [u64], budget: u32, trace: 
                 note(trace, count, x.core.ipr);
             }
             End::Halted => {
-                note(trace, count, x.core.ipr);
                 let after = x.core;
+                note(trace, count, after.ipr);
                 return Ran {
                     reply: Reply::Halted(count + 1),
                     core: after,

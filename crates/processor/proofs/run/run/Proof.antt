@@ -51,7 +51,7 @@ same-length-2 : tie.Need-same-length-2 Inv-loop μ-loop
 same-length-2 c = search (needs, runs, traces)
 
 returns : tie.Need-returns Inv-loop μ-loop
-returns c = search (needs, runs, traces)
+returns c = (search (needs, runs), search (needs, traces))
 
 enum-known-end : tie.Need-enum-known-end Inv-loop μ-loop
 enum-known-end c = search (needs, runs, traces)
