@@ -1,5 +1,6 @@
 /* The ring processor as a C library: one step, or a run under a budget, over a register record and a memory that the
- * caller lends; and a whole image run for its listing. Link with libkuzhlemor.a (x86-64, System V calling convention).
+ * caller lends; and a whole image run for its listing. Link with libkuzhlemor.a (x86-64, System V calling convention), which needs nothing but
+ * memset.
  *
  * The caller tests nothing first. Any values in the record and in memory, broken ones too, any number of words and any
  * budget get a defined reply. What the caller owes is the usual of C:
@@ -84,7 +85,8 @@ kuzhlemor_reply kuzhlemor_run(kuzhlemor_registers *registers, uint64_t *memory, 
  *   -45  text has 64 bytes for each line there may be: 64 * (budget + 1)
  * Bytes of text after the listing, and on refusal all of them, keep what they held. image and text aren't null, not even
  * when their lengths are 0, and don't overlap.
- * The call takes about 66 KiB of stack, for the image's memory; kuzhlemor_step and kuzhlemor_run take less than 1 KiB. */
+ * The call takes about 68 KiB of stack, most of it for the image's memory; kuzhlemor_step and kuzhlemor_run take a little
+ * over 1 KiB. */
 int64_t kuzhlemor_bench(const uint8_t *image, size_t image_length, uint8_t *text, size_t text_length);
 
 /* The layout that the library was built for. */
