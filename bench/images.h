@@ -1,4 +1,4 @@
-/* Images written out record by record, for C programs that make them. */
+/* The records of an image, written and read, for C programs that make images or take them. */
 #ifndef IMAGES_H
 #define IMAGES_H
 
@@ -50,6 +50,31 @@ static inline uint8_t *put_wd(uint8_t *to, uint32_t address, uint64_t word)
 static inline uint8_t *put_rn(uint8_t *to, uint32_t budget)
 {
     return put_number(put_mark(to, "RN"), budget, 4);
+}
+
+/* A number, high byte first, and what an ST has of such numbers after its mark. */
+static inline uint64_t number_at(const uint8_t *bytes, size_t count)
+{
+    uint64_t number = 0;
+
+    for (size_t k = 0; k < count; k++)
+        number = number << 8 | bytes[k];
+    return number;
+}
+
+static inline kuzhlemor_pointer pointer_at(const uint8_t *bytes)
+{
+    return (kuzhlemor_pointer){bytes[0], (uint16_t)number_at(bytes + 1, 2), (uint16_t)number_at(bytes + 3, 2)};
+}
+
+static inline kuzhlemor_registers registers_at(const uint8_t *bytes)
+{
+    kuzhlemor_registers r = {.a = number_at(bytes, 8), .ipr = pointer_at(bytes + 14)};
+
+    r.dbr = (kuzhlemor_dbr){(uint32_t)number_at(bytes + 8, 4), (uint16_t)number_at(bytes + 12, 2)};
+    for (size_t k = 0; k < 8; k++)
+        r.prs[k] = pointer_at(bytes + 19 + 5 * k);
+    return r;
 }
 
 /* A machine's image: its words that aren't zero, its registers and a budget. Answers the image's length. */

@@ -1,4 +1,5 @@
 /* Images and listings of the plain processor. */
+#include "images.h"
 #include "plain_step.h"
 
 enum {
@@ -64,30 +65,6 @@ size_t plain_list(kuzhlemor_registers *registers, uint64_t *memory, size_t words
     return (size_t)(put(put_word(to, "spent "), budget, '\n') - text);
 }
 
-/* A number of an image, high byte first. */
-static uint64_t number_at(const uint8_t *bytes, size_t count)
-{
-    uint64_t number = 0;
-
-    for (size_t k = 0; k < count; k++)
-        number = number << 8 | bytes[k];
-    return number;
-}
-
-static kuzhlemor_pointer pointer_at(const uint8_t *bytes)
-{
-    return (kuzhlemor_pointer){bytes[0], (uint16_t)number_at(bytes + 1, 2), (uint16_t)number_at(bytes + 3, 2)};
-}
-
-static void registers_at(const uint8_t *bytes, kuzhlemor_registers *r)
-{
-    r->a = number_at(bytes, 8);
-    r->dbr = (kuzhlemor_dbr){(uint32_t)number_at(bytes + 8, 4), (uint16_t)number_at(bytes + 12, 2)};
-    r->ipr = pointer_at(bytes + 14);
-    for (int k = 0; k < 8; k++)
-        r->prs[k] = pointer_at(bytes + 19 + 5 * k);
-}
-
 /* 41 to 44 of each record, in order; the number of the first no, or 0. */
 static int load(const uint8_t *image, size_t length, image_machine *m)
 {
@@ -112,7 +89,7 @@ static int load(const uint8_t *image, size_t length, image_machine *m)
             m->words = number_at(numbers, 4);
             has_memory = true;
         } else if (st) {
-            registers_at(numbers, &m->registers);
+            m->registers = registers_at(numbers);
             has_registers = true;
         } else if (wd) {
             if (number_at(numbers, 4) >= m->words)

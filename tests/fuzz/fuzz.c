@@ -30,7 +30,7 @@ static void compare_images(const uint8_t *image, size_t length, uint8_t how)
 {
     static uint8_t x[TEXT];
     static uint8_t y[TEXT];
-    size_t room = how & 1 ? 64 * (size_t)(how >> 1) : TEXT - (how >> 1) % 64;
+    size_t room = how & 1 ? 64 * (size_t)(how >> 1) : TEXT - (size_t)(how >> 1) % 64;
     int64_t plain;
     int64_t library;
 
@@ -42,42 +42,24 @@ static void compare_images(const uint8_t *image, size_t length, uint8_t how)
     require(memcmp(x, y, sizeof x) == 0, "a byte of the buffer");
 }
 
-static uint64_t number(const uint8_t *bytes, size_t count)
-{
-    uint64_t value = 0;
-
-    for (size_t k = 0; k < count; k++)
-        value = value << 8 | bytes[k];
-    return value;
-}
-
-static kuzhlemor_pointer pointer(const uint8_t *bytes)
-{
-    return (kuzhlemor_pointer){bytes[0], (uint16_t)number(bytes + 1, 2), (uint16_t)number(bytes + 3, 2)};
-}
-
 /* The record of an ST, then the words of memory; a run, and the same by single steps. */
 static void compare_machines(const uint8_t *bytes, size_t length, uint8_t how)
 {
     static uint64_t x[WORDS];
     static uint64_t y[WORDS];
-    kuzhlemor_registers r = {0};
+    kuzhlemor_registers r;
     kuzhlemor_registers s;
     size_t words;
     uint32_t budget = how >> 1;
 
     if (length < RECORD)
         return;
-    r.a = number(bytes, 8);
-    r.dbr = (kuzhlemor_dbr){(uint32_t)number(bytes + 8, 4), (uint16_t)number(bytes + 12, 2)};
-    r.ipr = pointer(bytes + 14);
-    for (size_t k = 0; k < 8; k++)
-        r.prs[k] = pointer(bytes + 19 + 5 * k);
+    r = registers_at(bytes);
     words = (length - RECORD) / 8;
     if (words > WORDS)
         words = WORDS;
     for (size_t k = 0; k < words; k++)
-        x[k] = y[k] = number(bytes + RECORD + 8 * k, 8);
+        x[k] = y[k] = number_at(bytes + RECORD + 8 * k, 8);
     s = r;
     require(same_reply(plain_run(&r, x, words, budget), kuzhlemor_run(&s, y, words, budget)), "a run's reply");
     require(same_registers(&r, &s), "the registers after a run");

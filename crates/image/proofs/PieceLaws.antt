@@ -1,11 +1,11 @@
 -- Bytes moved to a buffer's front, and an image loaded in pieces. Assumes nothing.
 use mathlib.Core.Path.{_≡_, refl, sym, _∙_, ap, ap₂, subst}
-use mathlib.Core.Bool.{Bool, true}
+use mathlib.Core.Bool.{Bool}
 use mathlib.Core.List.{List, [], _∷_, _++_}
 use Prim.Native.Nat.{ℕ, zero, suc, _+_, _-_, _≤_, _<_}
 use native.Mathlib.Omega.{arith}
-use lib.ListN.{length, take, drop, set, getD, length-set, length-take}
-use lib.Seq.{take-suc, take-suc-set, drop-set-lt, drop-drop, drop-append-le, drop-cons, getD-drop, length-take-le, drop-at, take-all}
+use lib.ListN.{length, take, drop, set, getD}
+use lib.Seq.{take-suc, take-suc-set, drop-set-lt, drop-drop, drop-append-le, getD-drop, length-take-le}
 use Rattle.model.specs.Image as Image
 use Rattle.image.specs.declared.loading.Loading.{Loading}
 use Rattle.image.specs.declared.load.LoadOutcome.{LoadOutcome}

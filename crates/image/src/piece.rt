@@ -1,7 +1,6 @@
 // An image that comes in pieces: what a buffer holds is loaded, and the start of a record that isn't whole yet is kept.
-ghost use mathlib.Core.Path.{_≡_};
 ghost use Prim.Native.Nat.{_≤_, _+_};
-ghost use lib.ListN.{length, take, drop};
+ghost use lib.ListN.{length, take};
 ghost use Rattle.image.specs.View.{Loading-within};
 ghost use Rattle.image.specs.Piece.{Kept-at-front, Piece-loaded};
 use crate::load::LoadOutcome;

@@ -1,5 +1,4 @@
 // The bench's call: an image loaded and run whole, for its listing.
-ghost use mathlib.Core.Path.{_≡_};
 ghost use Rattle.model.specs.Image.{checked};
 ghost use Rattle.model.specs.Bench as Bench;
 ghost use Rattle.machine.specs.Record.{machine-of};

@@ -1,6 +1,6 @@
 -- Fetching: one law for each answer. Assumes nothing.
 use mathlib.Core.Path.{_≡_, refl, sym, _∙_, ap, ap₂}
-use mathlib.Core.Bool.{Bool, true, false, _&&_, not, cond}
+use mathlib.Core.Bool.{Bool, true, false, not, cond}
 use Prim.Native.Nat.{ℕ, _+_}
 use native.Mathlib.Omega.{arith}
 use lib.Dec.{eqb}
@@ -15,7 +15,7 @@ use Rattle.model.specs.Program.{Program, fail, faults, or-fault, execute}
 use Rattle.model.specs.Step.{obey, step-program, step}
 use Rattle.model.proofs.ProgramLaws.{or-fault-no, or-fault-yes}
 use Rattle.words.specs.View.{as-descriptor}
-use Rattle.words.specs.Table.{known, privileged, entry-of, Told}
+use Rattle.words.specs.Table.{privileged, entry-of, Told}
 use Rattle.words.specs.declared.descriptor.Descriptor.{Descriptor}
 use Rattle.words.specs.declared.opcodes.Kind.{Kind}
 use Rattle.words.specs.declared.opcodes.Kind.the-variants.{Unknown, Read, Write, Update, Literal, Address, Pointer, Transfer, Call, Return, Dbr, Halt}

@@ -8,7 +8,6 @@ use Rattle.model.specs.Words.{Pointer}
 use Rattle.model.specs.Registers.{Dbr, Machine}
 use Rattle.model.specs.Questions.{then-ask, Question}
 use Rattle.model.specs.Program.{Outcome, faults, descriptor-of, absolute-address, word-at, use-answer, or-fault}
-use Rattle.model.specs.Step as Step
 use Rattle.model.proofs.ProgramLaws.{or-fault-no, or-fault-yes}
 use Rattle.words.specs.View.{as-descriptor}
 use Rattle.words.specs.declared.descriptor.Descriptor.{Descriptor}

@@ -1,11 +1,9 @@
 // The laptop's program: an image on standard input, its listing on standard output.
 ghost use mathlib.Core.Path.{_≡_};
-ghost use mathlib.Core.Bool.{true};
 ghost use Prim.Native.Nat.{_≤_};
 ghost use lib.ListN.{length, replicate};
 ghost use Rattle.model.specs.Questions.{start-questions};
 ghost use Rattle.processor.specs.View.{as-machine};
-ghost use Rattle.image.specs.View.{Loading-within};
 ghost use Rattle.simulate.specs.Read.{Ready-within};
 use image::load::LoadOutcome;
 use image::load::Loaded;

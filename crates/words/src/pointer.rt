@@ -1,6 +1,5 @@
 // Pointers, and the pointer word that holds one.
 ghost use mathlib.Core.Path.{_≡_};
-ghost use Prim.Native.Nat.{_≤_};
 ghost use Rattle.model.specs.Words.{indirect-in, pointer-word};
 ghost use Rattle.words.specs.View.{as-pointer, Pointer-within, Decoded-pointer};
 
