@@ -8,12 +8,12 @@ use lib.ListN.{length, take, drop, replicate, length-drop}
 use lib.Seq.{drop-drop, take-all}
 use Rattle.model.specs.Image as Image
 use Rattle.model.specs.Image.{image-after}
-use Rattle.image.specs.declared.loading.Loading.{Loading}
-use Rattle.image.specs.declared.loading.Outcome.{Outcome}
-use Rattle.image.specs.declared.loading.Outcome.the-variants.{Refused, Waits, Next, Ready}
+use Rattle.records.specs.declared.loading.Loading.{Loading}
+use Rattle.records.specs.declared.loading.Outcome.{Outcome}
+use Rattle.records.specs.declared.loading.Outcome.the-variants.{Refused, Waits, Next, Ready}
 use Rattle.image.specs.declared.load.LoadOutcome.the-variants as Load
-use Rattle.image.specs.View.{as-loading, Loading-within, Memory-within, Starts}
-use Rattle.image.specs.Record.{outcome-image, Goes, Outcome-within, Recorded-as}
+use Rattle.records.specs.View.{as-loading, Loading-within, Memory-within, Starts}
+use Rattle.records.specs.Record.{outcome-image, Goes, Outcome-within, Recorded-as}
 use Rattle.image.specs.Load.{Loaded-as}
 
 -- l and m before the first record; `at` bytes are used, and k and its memory are what they left

@@ -7,12 +7,12 @@ use native.Mathlib.Omega.{arith}
 use lib.ListN.{length, take, drop, set, getD}
 use lib.Seq.{take-suc, take-suc-set, drop-set-lt, drop-drop, drop-append-le, getD-drop, length-take-le}
 use Rattle.model.specs.Image as Image
-use Rattle.image.specs.declared.loading.Loading.{Loading}
+use Rattle.records.specs.declared.loading.Loading.{Loading}
 use Rattle.image.specs.declared.load.LoadOutcome.{LoadOutcome}
 use Rattle.image.specs.declared.load.LoadOutcome.the-variants.{Refused, More, Ready}
 use Rattle.image.specs.declared.load.Loaded.{Loaded}
-use Rattle.image.specs.View.{as-loading, Loading-within}
-use Rattle.image.specs.Record.{Goes, outcome-image}
+use Rattle.records.specs.View.{as-loading, Loading-within}
+use Rattle.records.specs.Record.{Goes, outcome-image}
 use Rattle.image.specs.Load.{as-outcome, Load-outcome-within, Loaded-as}
 use Rattle.image.proofs.LoadLaws.{words-within}
 use Rattle.image.specs.Piece.{Kept-at-front, piece-image, Piece-goes, Piece-within, Piece-loaded}

@@ -4,14 +4,14 @@ use mathlib.Core.Bool.{Bool, true, false}
 use mathlib.Core.List.{List}
 use Prim.Native.Nat.{ℕ, _-_, _≤_, _<_}
 use lib.ListN.{length}
-use Rattle.image.specs.declared.loading.Loading.{Loading}
-use Rattle.image.specs.declared.loading.Outcome.{Outcome}
-use Rattle.image.specs.declared.loading.Outcome.the-variants as Outcome
+use Rattle.records.specs.declared.loading.Loading.{Loading}
+use Rattle.records.specs.declared.loading.Outcome.{Outcome}
+use Rattle.records.specs.declared.loading.Outcome.the-variants as Outcome
 use Rattle.image.specs.declared.load.LoadOutcome.{LoadOutcome}
 use Rattle.image.specs.declared.load.LoadOutcome.the-variants.{Refused, More, Ready}
 use Rattle.image.specs.declared.load.Loaded.{Loaded}
-use Rattle.image.specs.View.{as-loading, Loading-within}
-use Rattle.image.specs.Record.{Goes}
+use Rattle.records.specs.View.{as-loading, Loading-within}
+use Rattle.records.specs.Record.{Goes}
 
 -- records one after another are as one of all their bytes
 abbrev pub as-outcome : LoadOutcome → Outcome

@@ -5,11 +5,11 @@ use mathlib.Core.List.{List, [], _++_}
 use Prim.Native.Nat.{ℕ, _-_, _≤_, _<_}
 use lib.ListN.{length, take, drop}
 use Rattle.model.specs.Image as Image
-use Rattle.image.specs.declared.loading.Loading.{Loading}
+use Rattle.records.specs.declared.loading.Loading.{Loading}
 use Rattle.image.specs.declared.load.LoadOutcome.{LoadOutcome}
 use Rattle.image.specs.declared.load.LoadOutcome.the-variants.{Refused, More, Ready}
 use Rattle.image.specs.declared.load.Loaded.{Loaded}
-use Rattle.image.specs.View.{as-loading, Loading-within}
+use Rattle.records.specs.View.{as-loading, Loading-within}
 
 -- the bytes from a place up to another stand at the front
 pub record Kept-at-front (from end : ℕ) (buffer buffer-now : List ℕ) : Type 0 where

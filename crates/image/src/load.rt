@@ -1,9 +1,9 @@
 // Records one after another, until one is refused, the bytes don't hold a whole one, or RN has come.
-ghost use Rattle.image.specs.View.{Loading-within};
+ghost use Rattle.records.specs.View.{Loading-within};
 ghost use Rattle.image.specs.Load.{Loaded-as};
-use crate::loading::Loading;
-use crate::loading::Outcome;
-use crate::loading::Recorded;
+use records::loading::Loading;
+use records::loading::Outcome;
+use records::loading::Recorded;
 
 pub enum LoadOutcome {
     // The first question with a no.
@@ -30,7 +30,7 @@ pub fn load(loading: Loading, memory: &mut [u64], bytes: &[u8], ended: bool) -> 
     };
     let mut at = 0;
     loop {
-        x = crate::record::load_record(x.loading, memory, &bytes[at..], ended);
+        x = records::record::load_record(x.loading, memory, &bytes[at..], ended);
         let outcome = x.outcome;
         match outcome {
             Outcome::Refused(n) => {

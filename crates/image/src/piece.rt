@@ -1,11 +1,11 @@
 // An image that comes in pieces: what a buffer holds is loaded, and the start of a record that isn't whole yet is kept.
 ghost use Prim.Native.Nat.{_≤_, _+_};
 ghost use lib.ListN.{length, take};
-ghost use Rattle.image.specs.View.{Loading-within};
+ghost use Rattle.records.specs.View.{Loading-within};
 ghost use Rattle.image.specs.Piece.{Kept-at-front, Piece-loaded};
 use crate::load::LoadOutcome;
 use crate::load::Loaded;
-use crate::loading::Loading;
+use records::loading::Loading;
 
 // The bytes from `from` up to `end` go to the buffer's front.
 pub fn keep(buffer: &mut [u8], from: usize, end: usize)

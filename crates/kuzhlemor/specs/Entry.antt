@@ -4,8 +4,8 @@ use mathlib.Core.List.{List}
 use Prim.Native.Nat.{ℕ}
 use Rattle.model.specs.Answers.{Numbers, reply-numbers, step-numbers}
 use Rattle.model.specs.Run.{run, single-step}
-use Rattle.machine.specs.Record.{pointer-of, registers-of, machine-of}
-use Rattle.machine.specs.declared.record.Registers.{Registers}
+use Rattle.host.specs.Record.{pointer-of, registers-of, machine-of}
+use Rattle.host.specs.declared.record.Registers.{Registers}
 use Rattle.kuzhlemor.specs.declared.Answer.{Answer}
 
 abbrev pub as-numbers : Answer → Numbers

@@ -1,3 +1,2 @@
 -- What the C entry points promise. Assumes nothing: these are definitions.
 pub mod Entry
-pub mod Bench

@@ -1,16 +1,14 @@
 // The C library: a run and a step over a register record and a memory that the host lends, and an image run whole.
-pub mod bench;
-
 ghost use mathlib.Core.Path.{_≡_};
 ghost use Rattle.model.specs.Answers as Answers;
 ghost use Rattle.model.specs.Registers as Model;
 ghost use Rattle.processor.specs.Run.{as-reply, Reply-within};
-ghost use Rattle.machine.specs.Record.{as-step-reply, Step-reply-within};
+ghost use Rattle.machine.specs.ByValue.{as-step-reply, Step-reply-within};
 ghost use Rattle.model.specs.Bench as Bench;
 ghost use Rattle.kuzhlemor.specs.Entry.{as-numbers, Run-says, Step-says};
-use machine::by_value::StepReply;
-use machine::record::Pointer;
-use machine::record::Registers;
+use host::record::Pointer;
+use host::record::Registers;
+use machine::StepReply;
 use processor::run::Reply;
 
 // An answer as numbers. Kinds: 0 refused, 1 spent or completed, 2 halted, 3 fault; what a kind leaves free is 0.
@@ -54,7 +52,7 @@ fn run_answer(reply: Reply) -> Answer
             kind: 3,
             number: n as u32,
             count,
-            pointer: machine::record::from_core(t),
+            pointer: host::record::from_core(t),
         },
     }
 }
@@ -71,7 +69,7 @@ fn step_answer(reply: StepReply) -> Answer
             kind: 3,
             number: n as u32,
             count: 0,
-            pointer: machine::record::from_core(t),
+            pointer: host::record::from_core(t),
         },
     }
 }
@@ -79,7 +77,7 @@ fn step_answer(reply: StepReply) -> Answer
 pub fn run_answered(registers: Registers, memory: &mut [u64], budget: u32) -> Answered
     ensures { λ x. ⌜ Run-says budget registers (now (memory .entry)) (x .answer) (x .registers) (now (memory .exit)) ⌝ }
 {
-    let x = machine::by_value::run(registers, memory, budget);
+    let x = machine::run(registers, memory, budget);
     let after = x.registers;
     let reply = x.reply;
     Answered {
@@ -91,7 +89,7 @@ pub fn run_answered(registers: Registers, memory: &mut [u64], budget: u32) -> An
 pub fn step_answered(registers: Registers, memory: &mut [u64]) -> Answered
     ensures { λ x. ⌜ Step-says registers (now (memory .entry)) (x .answer) (x .registers) (now (memory .exit)) ⌝ }
 {
-    let x = machine::by_value::step(registers, memory);
+    let x = machine::step(registers, memory);
     let after = x.registers;
     let reply = x.reply;
     Answered {
@@ -131,7 +129,7 @@ pub extern "C" fn kuzhlemor_run(
 pub extern "C" fn kuzhlemor_bench(image: &[u8], text: &mut [u8]) -> i64
     ensures { λ r. ⌜ (r ≡ Bench.bench (now (image .entry)) (now (text .entry)) .answer) × (now (text .exit) ≡ Bench.bench (now (image .entry)) (now (text .entry)) .buffer) ⌝ }
 {
-    let x = crate::bench::bench(image, text);
+    let x = dosing::bench(image, text);
     if x.number != 0 {
         return -(x.number as i64);
     }

@@ -22,11 +22,11 @@ use Rattle.processor.specs.declared.run.Ran.{Ran}
 use Rattle.processor.specs.declared.run.Reply.{Reply}
 use Rattle.processor.specs.declared.run.Reply.the-variants.{Refused, Spent, Halted, Fault}
 use Rattle.processor.specs.Run.{as-reply, Reply-within, completed, Traced}
-use Rattle.processor.specs.View.{as-machine, as-pointers}
-use Rattle.listing.specs.declared.list.Chunk.{Chunk}
-use Rattle.listing.specs.Text.{placed}
+use Rattle.addressing.specs.View.{as-machine, as-pointers}
+use Rattle.listing.specs.declared.Chunk.{Chunk}
+use Rattle.lines.specs.Text.{placed}
 use Rattle.listing.specs.Lines.{text-from, ends-run, ending, Chunk-written, Chunk-listed}
-use Rattle.listing.proofs.TextLaws.{placed-none, length-placed, next-after, put-after}
+use Rattle.lines.proofs.TextLaws.{placed-none, length-placed, next-after, put-after}
 
 -- WHAT IS STILL TO COME, by how the next step ends
 pub text-spent : (c : ℕ) (m : Machine) → text-from 0 c m ≡ last-line (spent c)

@@ -1,10 +1,3 @@
 -- Laws of this crate. Assumes nothing.
-pub mod TextLaws
-pub mod DecimalLaws
-pub mod DigitLaws
-pub mod BytesLaws
-pub mod LineLaws
-pub mod LastLineLaws
-pub mod LengthLaws
 pub mod ChunkLaws
 pub mod ListedLaws

@@ -12,9 +12,9 @@ use Rattle.model.specs.Run as Run
 use Rattle.model.specs.Run.{spent}
 use Rattle.model.specs.Listing.{step-lines, last-line, listing}
 use Rattle.model.proofs.RunLaws.{run-goes, trace-goes}
-use Rattle.listing.specs.declared.list.Line.{Line}
-use Rattle.listing.specs.declared.list.Listed.{Listed}
-use Rattle.listing.specs.Text.{placed}
+use Rattle.listing.specs.declared.Line.{Line}
+use Rattle.listing.specs.declared.Listed.{Listed}
+use Rattle.lines.specs.Text.{placed}
 use Rattle.listing.specs.Lines.{text-from, Chunk-listed, Lines-written}
 use Rattle.listing.proofs.ChunkLaws.{text-spent, put-take, put-drop, put-length}
 
@@ -38,8 +38,8 @@ module _ (m₀ : Machine) (c₀ b : ℕ) (t₀ : List ℕ) (x : Line) (c : ℕ) 
     (e : take (x .length) t ++ text-from (b - c) c m ≡ text-from (b - c₀) c₀ m₀) (rest : drop (x .length) t ≡ drop (x .length) t₀) (size : length t ≡ length t₀)
     (fits : x .length ≤ length t) (far : x .length ≤ 64 * (c - c₀)) (from : c₀ ≤ c) (within : c ≤ b) where
   -- no room
-  full : ((64 * (b - c₀ + 1) ≤ length t₀) → ⊥) → x .«is_last» ≡ false → start-questions m ≡ 0 → Lines-written m₀ c₀ b t₀ (record { line = x; count = c }) m t
-  full short f passes =
+  full : length t - x .length < 128 → ((64 * (b - c₀ + 1) ≤ length t₀) → ⊥) → x .«is_last» ≡ false → start-questions m ≡ 0 → Lines-written m₀ c₀ b t₀ (record { line = x; count = c }) m t
+  full near short f passes =
       record {
         goes-on = λ _. e;
         ends = λ g. absurd (false≢true (sym f ∙ g));
@@ -49,15 +49,16 @@ module _ (m₀ : Machine) (c₀ b : ℕ) (t₀ : List ℕ) (x : Line) (c : ℕ) 
         short = omega arith;
         count-within = within;
         passes = passes;
+        full = λ _. omega arith;
         has-room = λ h. absurd (short h);
       }
 
   pub lines-full : c < b → length t - x .length < 128 → x .«is_last» ≡ false → start-questions m ≡ 0 → Lines-written m₀ c₀ b t₀ (record { line = x; count = c }) m t
-  lines-full h s = full (λ g. omega arith)
+  lines-full h s = full s (λ g. omega arith)
 
   pub lines-full-at-last : b ≤ c → length t - x .length < 64 → x .«is_last» ≡ false → start-questions m ≡ 0 →
       Lines-written m₀ c₀ b t₀ (record { line = x; count = c }) m t
-  lines-full-at-last h s = full (λ g. omega arith)
+  lines-full-at-last h s = full (omega arith) (λ g. omega arith)
 
   -- the budget is spent
   pub lines-spent : (r : ℕ) (u : List ℕ) → b ≤ c → 64 ≤ length t - x .length → u ≡ placed (x .length) (last-line (spent c)) t →
@@ -75,6 +76,7 @@ module _ (m₀ : Machine) (c₀ b : ℕ) (t₀ : List ℕ) (x : Line) (c : ℕ) 
         short = omega arith;
         count-within = within;
         passes = passes;
+        full = λ g. absurd (true≢false g);
         has-room = λ _. refl;
       }
     where
@@ -109,6 +111,7 @@ module _ (m₀ : Machine) (c₀ b : ℕ) (t₀ : List ℕ) (x : Line) (c : ℕ) 
           short = omega (arith, w .near);
           count-within = within;
           passes = w .passes;
+          full = λ g. absurd (true≢false (sym f ∙ g));
           has-room = λ _. f;
         }
 

@@ -2,7 +2,7 @@
 use mathlib.Core.Path.{_≡_}
 use mathlib.Core.Bool.{Bool, true, false}
 use mathlib.Core.List.{List, [], _++_}
-use Prim.Native.Nat.{ℕ, _+_, _-_, _*_, _≤_}
+use Prim.Native.Nat.{ℕ, _+_, _-_, _*_, _≤_, _<_}
 use lib.ListN.{length, take, drop}
 use Rattle.model.specs.Registers.{Machine}
 use Rattle.model.specs.Questions.{start-questions}
@@ -12,10 +12,10 @@ use Rattle.words.specs.View.{as-pointer}
 use Rattle.processor.specs.declared.run.Reply.{Reply}
 use Rattle.processor.specs.declared.run.Reply.the-variants.{Refused, Spent, Halted, Fault}
 use Rattle.processor.specs.Run.{completed, Ran-as}
-use Rattle.listing.specs.declared.list.Line.{Line}
-use Rattle.listing.specs.declared.list.Chunk.{Chunk}
-use Rattle.listing.specs.declared.list.Listed.{Listed}
-use Rattle.listing.specs.Text.{Put}
+use Rattle.listing.specs.declared.Line.{Line}
+use Rattle.listing.specs.declared.Chunk.{Chunk}
+use Rattle.listing.specs.declared.Listed.{Listed}
+use Rattle.lines.specs.Text.{Put}
 
 -- the listing from here on: so many steps are left, and so many were completed before
 unfoldable pub text-from : (left count : ℕ) → Machine → List ℕ
@@ -54,7 +54,8 @@ pub record Chunk-listed (m : Machine) (count steps at : ℕ) (text : List ℕ) (
   pub short : x .«is_last» ≡ false → x .length ≤ at + 64 * steps
   pub passes : start-questions m-now ≡ 0
 
--- lines from the text's start; bytes after them stay. A text of 64 bytes for each line has room for all
+-- lines from the text's start; bytes after them stay. It stops before the last line only where fewer than 128 bytes are left;
+-- a text of 64 bytes for each line has room for all
 pub record Lines-written (m : Machine) (count budget : ℕ) (text : List ℕ) (x : Listed) (m-now : Machine) (text-now : List ℕ) : Type 0 where
   pub goes-on : x .line .«is_last» ≡ false → take (x .line .length) text-now ++ text-from (budget - x .count) (x .count) m-now ≡ text-from (budget - count) count m
   pub ends : x .line .«is_last» ≡ true → take (x .line .length) text-now ≡ text-from (budget - count) count m
@@ -64,6 +65,7 @@ pub record Lines-written (m : Machine) (count budget : ℕ) (text : List ℕ) (x
   pub short : x .line .length ≤ 64 * (budget - count + 1)
   pub count-within : x .count ≤ budget
   pub passes : start-questions m-now ≡ 0
+  pub full : x .line .«is_last» ≡ false → length text < x .line .length + 128
   pub has-room : 64 * (budget - count + 1) ≤ length text → x .line .«is_last» ≡ true
 
 -- the definition's listing at the text's start; bytes after it stay

@@ -5,8 +5,7 @@ use mathlib.Core.List.{List}
 use Prim.Native.Nat.{ℕ, zero, suc, _≤_}
 use lib.Dec.{leb}
 use borrow.Author.Tests.{leb-true}
-use Rattle.model.specs.Words.{Pointer}
-use Rattle.model.specs.Registers.{Dbr, Registers, Machine}
+use Rattle.model.specs.Registers.{Registers, Machine}
 use Rattle.model.specs.Questions.{all, pointer-in-range, registers-in-range, dbr-fits, start-questions}
 use Rattle.model.specs.Program.{Outcome, faults, completes, halts}
 use Rattle.model.specs.Step.{step}
@@ -16,49 +15,58 @@ use Rattle.model.proofs.BranchLaws.{and-left, and-right}
 use Rattle.model.proofs.QuestionLaws.{ask-yes}
 use Rattle.model.proofs.RunLaws.{run-refused, run-goes}
 use Rattle.model.proofs.CountLaws.{single-step-runs}
-use Rattle.machine.specs.Record.{step-reply-of}
+use Rattle.addressing.specs.View.{as-machine}
+use Rattle.host.specs.declared.prepare.Prepared.{Prepared}
+use Rattle.host.specs.Record.{Prepared-as}
+use Rattle.host.proofs.PrepareLaws.{prepared-passes}
+use Rattle.machine.specs.ByValue.{step-reply-of}
 use Rattle.processor.proofs.RunLaws.{passing-ring, passing-segment}
 
--- REFUSED: registers and memory are as they were
-module _ (b n : ℕ) (r : Registers) (v : List ℕ) (e : n ≡ start-questions (record { registers = r; memory = v })) (h : n ≡ 0 → ⊥) where
+-- x is the record in the core's form, and q and v are its registers and memory
+module _ (b : ℕ) (q : Registers) (v : List ℕ) (x : Prepared) (p : Prepared-as (record { registers = q; memory = v }) x) where
   abbrev m : Machine
-  m = record { registers = r; memory = v }
+  m = record { registers = q; memory = v }
 
-  refuses : run b m ≡ ran (Run.Reply.refused n) m
-  refuses = by-number n e h
-    where
-      by-number : (n : ℕ) → n ≡ start-questions m → (n ≡ 0 → ⊥) → run b m ≡ ran (Run.Reply.refused n) m
-      by-number zero q f = absurd (f refl)
-      by-number (suc n) q f = run-refused b n m (sym q)
+  -- REFUSED: registers and memory are as they were
+  module _ (h : x .number ≡ 0 → ⊥) where
+    refuses : run b m ≡ ran (Run.Reply.refused (x .number)) m
+    refuses = by-number (x .number) (p .asked) h
+      where
+        by-number : (n : ℕ) → n ≡ start-questions m → (n ≡ 0 → ⊥) → run b m ≡ ran (Run.Reply.refused n) m
+        by-number zero e f = absurd (f refl)
+        by-number (suc n) e f = run-refused b n m (sym e)
 
-  pub refused-reply : Run.Reply.refused n ≡ run b (record { registers = r; memory = v }) .reply
-  unfolding ran
-  refused-reply = sym (ap (λ x. x .reply) refuses)
+    pub refused-reply : Run.Reply.refused (x .number) ≡ run b (record { registers = q; memory = v }) .reply
+    unfolding ran
+    refused-reply = sym (ap (λ y. y .reply) refuses)
 
-  pub refused-registers : r ≡ run b (record { registers = r; memory = v }) .machine .registers
-  unfolding ran
-  refused-registers = sym (ap (λ x. x .machine .registers) refuses)
+    pub refused-registers : q ≡ run b (record { registers = q; memory = v }) .machine .registers
+    unfolding ran
+    refused-registers = sym (ap (λ y. y .machine .registers) refuses)
 
-  pub refused-memory : v ≡ run b (record { registers = r; memory = v }) .machine .memory
-  unfolding ran
-  refused-memory = sym (ap (λ x. x .machine .memory) refuses)
+    pub refused-memory : v ≡ run b (record { registers = q; memory = v }) .machine .memory
+    unfolding ran
+    refused-memory = sym (ap (λ y. y .machine .memory) refuses)
 
--- 1 TO 4 PASS
-pub machine-same : (a : ℕ) (d : Dbr) (p : Pointer) (ps qs : List Pointer) (r : Registers) (v : List ℕ) →
-    _≡_ {A = Registers} (record { a = a; dbr = d; ipr = p; prs = qs }) r → ps ≡ qs →
-    _≡_ {A = Machine} (record { registers = record { a = a; dbr = d; ipr = p; prs = ps }; memory = v }) (record { registers = r; memory = v })
-machine-same a d p ps qs r v e f =
-    ap (λ ts. record { registers = record { a = a; dbr = d; ipr = p; prs = ts }; memory = v }) f ∙ ap (λ q. record { registers = q; memory = v }) e
+  -- 1 TO 4 PASS: the core's run, whose reply, registers and memory are a, r and k
+  module _ (z : x .number ≡ 0) (a : Run.Reply) (r : Registers) (k : List ℕ)
+      (s : run-from b 0 (as-machine (x .core) (x .prs) v) ≡ ran a (record { registers = r; memory = k })) where
+    goes : run b m ≡ ran a (record { registers = r; memory = k })
+    goes = run-goes b m (sym (p .asked) ∙ z) ∙ ap (run-from b 0) (sym (p .same z)) ∙ s
 
-pub converted-passes : (n : ℕ) (m k : Machine) → n ≡ start-questions m → n ≡ 0 → k ≡ m → start-questions k ≡ 0
-converted-passes n m k e z f = ap start-questions f ∙ sym e ∙ z
+    pub ran-reply : a ≡ run b (record { registers = q; memory = v }) .reply
+    unfolding ran
+    ran-reply = sym (ap (λ y. y .reply) goes)
 
-pub passing-prs : (n a : ℕ) (d : Dbr) (p : Pointer) (ps : List Pointer) (v : List ℕ) →
-    n ≡ start-questions (record { registers = record { a = a; dbr = d; ipr = p; prs = ps }; memory = v }) → n ≡ 0 → all pointer-in-range ps ≡ true
-unfolding start-questions registers-in-range
-passing-prs n a d p ps v e z =
-    and-left (all pointer-in-range ps) _ (and-right (pointer-in-range p) _ (ask-yes _ _ _ (ask-yes _ _ _ (sym e ∙ z) .1) .0))
+    pub ran-registers : (c : Registers) → c ≡ r → c ≡ run b (record { registers = q; memory = v }) .machine .registers
+    unfolding ran
+    ran-registers c g = g ∙ sym (ap (λ y. y .machine .registers) goes)
 
+    pub ran-memory : k ≡ run b (record { registers = q; memory = v }) .machine .memory
+    unfolding ran
+    ran-memory = sym (ap (λ y. y .machine .memory) goes)
+
+-- what stands after the run fits the record
 module _ (m : Machine) (e : start-questions m ≡ 0) where
   pub passing-address : m .registers .dbr .address ≤ 16777215
   unfolding start-questions registers-in-range
@@ -73,25 +81,7 @@ module _ (m : Machine) (e : start-questions m ≡ 0) where
       leb-true _ _
       (and-left (leb (m .registers .dbr .length) 4096) _ (ask-yes _ _ _ (ask-yes _ _ _ (ask-yes _ _ _ (ask-yes _ _ _ e .1) .1) .1) .0))
 
--- k is the machine that the core is handed, and q and v what stands at the end
-module _ (b n : ℕ) (m k : Machine) (x : Run.Reply) (q : Registers) (v : List ℕ) (s : run-from b 0 k ≡ ran x (record { registers = q; memory = v }))
-    (e : n ≡ start-questions m) (z : n ≡ 0) (f : k ≡ m) where
-  goes : run b m ≡ ran x (record { registers = q; memory = v })
-  goes = run-goes b m (sym e ∙ z) ∙ ap (run-from b 0) (sym f) ∙ s
-
-  pub ran-reply : x ≡ run b m .reply
-  unfolding ran
-  ran-reply = sym (ap (λ y. y .reply) goes)
-
-  pub ran-registers : (p : Registers) → p ≡ q → p ≡ run b m .machine .registers
-  unfolding ran
-  ran-registers p g = g ∙ sym (ap (λ y. y .machine .registers) goes)
-
-  pub ran-memory : v ≡ run b m .machine .memory
-  unfolding ran
-  ran-memory = sym (ap (λ y. y .machine .memory) goes)
-
-pub ruleset runs-by-value = (refused-reply, refused-registers, refused-memory, machine-same, converted-passes, passing-prs, passing-ring, passing-segment, passing-address, passing-length, ran-reply, ran-registers, ran-memory)
+pub ruleset runs-by-value = (refused-reply, refused-registers, refused-memory, prepared-passes, ran-reply, ran-registers, ran-memory, passing-ring, passing-segment, passing-address, passing-length)
 
 -- A STEP is a run with budget 1
 single-step-replies : (m : Machine) → single-step m .reply ≡ step-reply-of (run 1 m .reply)

@@ -19,11 +19,11 @@ use Rattle.words.specs.Table.{privileged, entry-of, Told}
 use Rattle.words.specs.declared.descriptor.Descriptor.{Descriptor}
 use Rattle.words.specs.declared.opcodes.Kind.{Kind}
 use Rattle.words.specs.declared.opcodes.Kind.the-variants.{Unknown, Read, Write, Update, Literal, Address, Pointer, Transfer, Call, Return, Dbr, Halt}
-use Rattle.processor.specs.declared.translate.Translated.{Translated}
-use Rattle.processor.specs.declared.translate.Translated.the-variants.{Refused, Passed}
-use Rattle.processor.specs.Translation.{translated}
+use Rattle.addressing.specs.declared.translate.Translated.{Translated}
+use Rattle.addressing.specs.declared.translate.Translated.the-variants.{Refused, Passed}
+use Rattle.addressing.specs.Translation.{translated}
 use Rattle.processor.specs.Step.{opcode-answer, obeyed, entry-in}
-use Rattle.processor.proofs.UseLaws.{refused-faults, answer-passed, word-passed}
+use Rattle.addressing.proofs.UseLaws.{refused-faults, answer-passed, word-passed}
 
 -- 33, where an opcode is privileged
 pub in-ring-0 : (n : ℕ) → n ≡ 0 → 0 ≡ ask (eqb n 0) 33 0

@@ -21,10 +21,10 @@ use Rattle.model.proofs.SoundLaws.{step-keeps-passing}
 use Rattle.model.proofs.RunLaws.{run-faults, run-halts, run-completes}
 use Rattle.words.specs.View.{as-pointer, Pointer-within}
 use Rattle.words.specs.declared.pointer.Pointer.{Pointer}
-use Rattle.processor.specs.declared.state.Core.{Core}
-use Rattle.processor.specs.declared.state.End.{End}
-use Rattle.processor.specs.declared.state.End.the-variants.{Completed, Halted, Faulted}
-use Rattle.processor.specs.View.{as-machine, ended}
+use Rattle.addressing.specs.declared.state.Core.{Core}
+use Rattle.addressing.specs.declared.state.End.{End}
+use Rattle.addressing.specs.declared.state.End.the-variants.{Completed, Halted, Faulted}
+use Rattle.addressing.specs.View.{as-machine, ended}
 
 -- WHAT 1 TO 4 GIVE
 module _ (m : Machine) (e : start-questions m ≡ 0) where

@@ -15,15 +15,15 @@ use Rattle.words.specs.Table.{operand, result, taken, entry-of}
 use Rattle.words.specs.declared.pointer.Pointer as Code
 use Rattle.words.specs.declared.opcodes.Kind.{Kind}
 use Rattle.words.specs.declared.opcodes.Kind.the-variants.{Unknown, Read, Write, Update, Literal, Address, Pointer, Transfer, Call, Return, Dbr, Halt}
-use Rattle.processor.specs.declared.address.Address as Formed
-use Rattle.processor.specs.declared.address.Address.the-variants.{Bad, Good}
-use Rattle.processor.specs.declared.state.End.{End}
-use Rattle.processor.specs.declared.state.End.the-variants.{Completed}
+use Rattle.addressing.specs.declared.address.Address as Formed
+use Rattle.addressing.specs.declared.address.Address.the-variants.{Bad, Good}
+use Rattle.addressing.specs.declared.state.End.{End}
+use Rattle.addressing.specs.declared.state.End.the-variants.{Completed}
 use Rattle.processor.specs.declared.step.Fetched.{Fetched}
 use Rattle.processor.specs.declared.step.Fetched.the-variants.{Refused, Word}
-use Rattle.processor.specs.Address.{operand-program, operand-formed}
+use Rattle.addressing.specs.Address.{operand-program, operand-formed}
 use Rattle.processor.specs.Step.{performed, obeyed, entry-in, fetched}
-use Rattle.processor.specs.View.{as-pointers, pr-of, ended}
+use Rattle.addressing.specs.View.{as-pointers, pr-of, ended}
 
 -- PERFORM: an arm of the code is the access of the kind's entry
 module _ (m : Machine) (w : ℕ) (t : Words.Pointer) (k : Kind) where

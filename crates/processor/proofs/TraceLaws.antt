@@ -14,11 +14,11 @@ use Rattle.model.proofs.WordLaws.{pointer-word-reads-back}
 use Rattle.model.proofs.RunLaws.{trace-faults, trace-halts, trace-completes}
 use Rattle.words.specs.View.{as-pointer}
 use Rattle.words.specs.declared.pointer.Pointer as Code
-use Rattle.processor.specs.declared.state.Core.{Core}
-use Rattle.processor.specs.declared.state.End.{End}
-use Rattle.processor.specs.declared.state.End.the-variants.{Completed, Halted, Faulted}
+use Rattle.addressing.specs.declared.state.Core.{Core}
+use Rattle.addressing.specs.declared.state.End.{End}
+use Rattle.addressing.specs.declared.state.End.the-variants.{Completed, Halted, Faulted}
 use Rattle.processor.specs.declared.run.Reply.the-variants as Reply
-use Rattle.processor.specs.View.{as-pointers, ended}
+use Rattle.addressing.specs.View.{as-pointers, ended}
 use Rattle.processor.specs.Run.{Noted, Traced}
 
 -- ONE NOTE

@@ -11,7 +11,7 @@ use Rattle.words.specs.View.{as-pointer, Pointer-within}
 use Rattle.processor.specs.declared.run.Reply.{Reply}
 use Rattle.processor.specs.declared.run.Reply.the-variants.{Refused, Spent, Halted, Fault}
 use Rattle.processor.specs.declared.run.Ran.{Ran}
-use Rattle.processor.specs.View.{as-pointers, as-machine}
+use Rattle.addressing.specs.View.{as-pointers, as-machine}
 
 abbrev pub as-reply : Reply → Run.Reply
 as-reply (Refused n) = Run.Reply.refused n

@@ -15,21 +15,13 @@ use Rattle.model.specs.Program.{Program, fail, execute, faults}
 use Rattle.model.specs.Step.{with-operand, perform, step}
 use Rattle.words.specs.Table.{known, privileged, entry-of}
 use Rattle.words.specs.declared.opcodes.Kind.{Kind}
-use Rattle.processor.specs.View.{as-machine}
-use Rattle.processor.specs.Translation.{descriptor-at, use-at}
-use Rattle.processor.specs.declared.state.Core.{Core}
+use Rattle.addressing.specs.View.{as-machine}
+use Rattle.addressing.specs.Translation.{descriptor-at, use-at}
+use Rattle.addressing.specs.declared.state.Core.{Core}
 use Rattle.processor.specs.declared.step.Fetched.{Fetched}
 use Rattle.processor.specs.declared.step.Fetched.the-variants as Fetched
-use Rattle.processor.specs.declared.control.Checked.{Checked}
-use Rattle.processor.specs.declared.control.Checked.the-variants as Checked
-
--- CALL'S CHECK: 11 to 15, 26 to 30, and the new ring
-unfoldable pub call-answer : Registers.Dbr → (memory : List ℕ) → (ipr t : Words.Pointer) → ℕ
-call-answer b m ipr t = then-ask (use-at b m t) (call-questions ipr t (descriptor-at b m (t .segment)))
-
-abbrev pub checked : Registers.Dbr → (memory : List ℕ) → (ipr t : Words.Pointer) → Checked → Type 0
-checked b m ipr t (Checked.Refused n) = (call-answer b m ipr t ≡ n) × (1 ≤ n)
-checked b m ipr t (Checked.Ring n) = (call-answer b m ipr t ≡ 0) × (n ≡ new-ring t (descriptor-at b m (t .segment)))
+use Rattle.control.specs.declared.Checked.{Checked}
+use Rattle.control.specs.declared.Checked.the-variants as Checked
 
 -- 32 AND 33 by an opcode's kind
 unfoldable pub opcode-answer : Kind → (ring : ℕ) → ℕ

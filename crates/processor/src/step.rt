@@ -7,13 +7,13 @@ ghost use Rattle.model.specs.Step as Step;
 ghost use Rattle.model.specs.Questions.{ask};
 ghost use Rattle.words.specs.Table.{Right-table};
 ghost use Rattle.words.specs.View.{as-pointer, Pointer-within};
-ghost use Rattle.processor.specs.View.{as-registers, as-machine, Ready, does, ended};
+ghost use Rattle.addressing.specs.View.{as-registers, as-machine, Ready, does, ended};
 ghost use Rattle.processor.specs.Step.{opcode-answer, fetched-with-any-prs, performed, obeyed, entry-in};
-use crate::address::Address;
-use crate::state::After;
-use crate::state::Core;
-use crate::state::End;
-use crate::translate::Translated;
+use addressing::address::Address;
+use addressing::state::After;
+use addressing::state::Core;
+use addressing::state::End;
+use addressing::translate::Translated;
 use words::opcodes::Kind;
 use words::pointer::Pointer;
 
@@ -57,13 +57,13 @@ pub fn fetch(core: Core, memory: &[u64], table: &[u8; 256]) -> Fetched
 {
     let dbr = core.dbr;
     let ipr = core.ipr;
-    match crate::translate::translate(dbr, memory, ipr) {
+    match addressing::translate::translate(dbr, memory, ipr) {
         Translated::Refused(n) => Fetched::Refused(n),
         Translated::Passed(d) => {
-            if !crate::segment::is_executable(d, ipr) {
+            if !addressing::segment::is_executable(d, ipr) {
                 return Fetched::Refused(21);
             }
-            let w = crate::segment::read(memory, d, ipr.word);
+            let w = addressing::segment::read(memory, d, ipr.word);
             let kind = words::opcodes::kind_of(table, words::instruction::opcode(w));
             let n = kind_answer(kind, ipr.ring);
             if n != 0 {
@@ -91,24 +91,24 @@ pub fn perform(
             core,
             end: End::Faulted(32, t),
         },
-        Kind::Read => crate::access::load(core, memory, w, t),
+        Kind::Read => operations::access::load(core, memory, w, t),
         Kind::Write => {
             let a = core.a;
-            crate::access::store(core, memory, t, a)
+            operations::access::store(core, memory, t, a)
         }
-        Kind::Update => crate::access::update(core, memory, t),
-        Kind::Literal => crate::registers::load_literal(core, w),
-        Kind::Address => crate::registers::load_pointer(core, prs, w, t),
+        Kind::Update => operations::access::update(core, memory, t),
+        Kind::Literal => operations::registers::load_literal(core, w),
+        Kind::Address => operations::registers::load_pointer(core, prs, w, t),
         Kind::Pointer => {
-            let value = crate::registers::stored_pointer(prs, w);
-            crate::access::store(core, memory, t, value)
+            let value = operations::registers::stored_pointer(prs, w);
+            operations::access::store(core, memory, t, value)
         }
-        Kind::Transfer => crate::control::transfer(core, memory, w, t),
-        Kind::Call => crate::control::call(core, prs, memory, t),
-        Kind::Return => crate::control::return_to(core, prs, memory, t),
-        Kind::Dbr => crate::access::load_dbr(core, memory, t),
+        Kind::Transfer => control::transfer(core, memory, w, t),
+        Kind::Call => control::call(core, prs, memory, t),
+        Kind::Return => control::return_to(core, prs, memory, t),
+        Kind::Dbr => operations::access::load_dbr(core, memory, t),
         Kind::Halt => After {
-            core: crate::state::advanced(core),
+            core: addressing::state::advanced(core),
             end: End::Halted,
         },
     }
@@ -119,7 +119,7 @@ pub fn obey(core: Core, prs: &mut [u64; 8], memory: &mut [u64], w: u64, kind: Ki
     requires { ⌜ Ready core (now memory) ⌝ }
     ensures { λ x. ⌜ does core (now (prs .entry)) (now (memory .entry)) (obeyed (length (now (memory .entry))) (entry-in w kind) (instruction-in w) (as-registers core (now (prs .entry)))) x (now (prs .exit)) (now (memory .exit)) ⌝ }
 {
-    match crate::address::operand(core, prs, memory, w, kind) {
+    match addressing::address::operand(core, prs, memory, w, kind) {
         Address::Bad(n, t) => After {
             core,
             end: End::Faulted(n, t),

@@ -7,7 +7,7 @@ use lib.ListN.{length, take}
 use lib.Seq.{length-take-le}
 use Rattle.model.specs.Registers.{Machine}
 use Rattle.model.specs.Questions.{start-questions}
-use Rattle.listing.specs.declared.list.Listed.{Listed}
+use Rattle.listing.specs.declared.Listed.{Listed}
 use Rattle.listing.specs.Lines.{Lines-written}
 
 module _ (m : Machine) (c b : ℕ) (t : List ℕ) (x : Listed) (k : Machine) (u : List ℕ) (w : Lines-written m c b t x k u) where

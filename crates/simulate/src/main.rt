@@ -3,17 +3,17 @@ ghost use mathlib.Core.Path.{_≡_};
 ghost use Prim.Native.Nat.{_≤_};
 ghost use lib.ListN.{length, replicate};
 ghost use Rattle.model.specs.Questions.{start-questions};
-ghost use Rattle.processor.specs.View.{as-machine};
+ghost use Rattle.addressing.specs.View.{as-machine};
 ghost use Rattle.simulate.specs.Read.{Ready-within};
+use addressing::state::Core;
+use host::record::Registers;
 use image::load::LoadOutcome;
 use image::load::Loaded;
 use libc::STDIN_FILENO;
 use libc::STDOUT_FILENO;
-use listing::list::Line;
-use listing::list::Listed;
-use machine::record::Registers;
+use listing::Line;
+use listing::Listed;
 use processor::run::Reply;
-use processor::state::Core;
 
 // What one read gave: the bytes that the buffer holds now, and whether it was the last.
 struct Piece {
@@ -42,7 +42,7 @@ fn read_image(memory: &mut [u64]) -> Loaded
 {
     let mut buffer = io::large_buffer();
     let mut x = Loaded {
-        loading: image::loading::nothing_loaded(),
+        loading: records::loading::nothing_loaded(),
         outcome: LoadOutcome::More(0),
     };
     let mut kept = 0;
@@ -74,7 +74,7 @@ fn read_image(memory: &mut [u64]) -> Loaded
 
 fn print_refusal(number: u8) {
     let mut text = [0u8; 64];
-    let size = listing::line::put_last_line(&mut text, 0, Reply::Refused(number));
+    let size = lines::line::put_last_line(&mut text, 0, Reply::Refused(number));
     io::write_all(STDOUT_FILENO, &text[..size]);
 }
 
@@ -94,7 +94,7 @@ fn print_listing(core: Core, start: [u64; 8], memory: &mut [u64], budget: u32)
     };
     let mut turns = u64::MAX;
     while turns > 0 {
-        x = listing::list::list(x.line.core, &mut prs, memory, x.count, budget, &mut text);
+        x = listing::list(x.line.core, &mut prs, memory, x.count, budget, &mut text);
         let size = x.line.length;
         if !io::write_all(STDOUT_FILENO, &text[..size]) {
             return;
@@ -108,7 +108,7 @@ fn print_listing(core: Core, start: [u64; 8], memory: &mut [u64], budget: u32)
 
 // What an image gave: 1 to 4, then its run.
 fn run_image(registers: Registers, memory: &mut [u64], budget: u32) {
-    let x = machine::prepare::prepare(registers, memory);
+    let x = host::prepare::prepare(registers, memory);
     if x.number != 0 {
         print_refusal(x.number);
         return;
@@ -118,7 +118,7 @@ fn run_image(registers: Registers, memory: &mut [u64], budget: u32) {
 }
 
 fn main() {
-    let mut memory = image::loading::empty_memory();
+    let mut memory = records::loading::empty_memory();
     let x = read_image(&mut memory);
     let loading = x.loading;
     let outcome = x.outcome;

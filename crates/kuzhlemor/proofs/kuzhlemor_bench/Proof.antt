@@ -1,6 +1,6 @@
 -- `kuzhlemor_bench` meets its contract. Assumes nothing.
 use borrow.Author.Needs.{needs}
-use Rattle.kuzhlemor.proofs.BenchLaws.{calls}
+use Rattle.dosing.proofs.BenchLaws.{calls}
 use Rattle.kuzhlemor.proofs.kuzhlemor_bench.Statement.{statement}
 use Rattle.kuzhlemor.proofs.kuzhlemor_bench.Tie as tie
 

@@ -43,11 +43,11 @@ use denote.Triple.Table.{entered, cited}
 use denote.Triple.Walked.{says, Stays, stay-ref, stay-none, gave-slice, walkOf, AllGo, goes-none, goes-ref, goes-gave-slice, Walks, ends-at, walked, walk-meets}
 use denote.Exit.{yes}
 use Rattle.kuzhlemor.specs.Entry.{Run-says}
-use Rattle.machine.specs.declared.record.Registers.{Registers}
+use Rattle.host.specs.declared.record.Registers.{Registers}
 use Rattle.kuzhlemor.specs.declared.Answer.{Answer}
 use Rattle.kuzhlemor.specs.declared.Answered.{Answered}
-use Rattle.machine.proofs.record.Registers as T
-use Rattle.machine.proofs.record.Registers.Laws as T′
+use Rattle.host.proofs.record.Registers as T
+use Rattle.host.proofs.record.Registers.Laws as T′
 use Rattle.kuzhlemor.proofs.Answered as S
 use Rattle.kuzhlemor.proofs.Answered.Laws as S′
 use Rattle.kuzhlemor.proofs.Answer as E

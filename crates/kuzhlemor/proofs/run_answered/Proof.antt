@@ -1,4 +1,4 @@
--- `run_answered` meets its contract: the reply of `by_value::run` as numbers, beside its registers. Assumes nothing.
+-- `run_answered` meets its contract: the reply of `machine::run` as numbers, beside its registers. Assumes nothing.
 use mathlib.Core.Path.{_∙_, ap}
 use Rattle.model.specs.Answers.{reply-numbers}
 use borrow.Author.Needs.{needs}

@@ -1,8 +1,8 @@
 -- `step_answer` meets its contract, case by case. Assumes nothing.
 use mathlib.Core.Path.{_≡_, _∙_, ap, sym, subst}
 use Rattle.model.specs.Answers.{numbers, step-numbers}
-use Rattle.machine.specs.Record.{as-step-reply, Step-reply-within}
-use Rattle.machine.specs.declared.by_value.StepReply.{StepReply}
+use Rattle.machine.specs.ByValue.{as-step-reply, Step-reply-within}
+use Rattle.machine.specs.declared.StepReply.{StepReply}
 use borrow.Author.Needs.{needs}
 use Rattle.kuzhlemor.proofs.step_answer.Statement.{statement}
 use Rattle.kuzhlemor.proofs.step_answer.Tie as tie

@@ -1,4 +1,4 @@
--- `step_answered` meets its contract: the reply of `by_value::step` as numbers, beside its registers. Assumes nothing.
+-- `step_answered` meets its contract: the reply of `machine::step` as numbers, beside its registers. Assumes nothing.
 use mathlib.Core.Path.{_∙_, ap}
 use Rattle.model.specs.Answers.{step-numbers}
 use borrow.Author.Needs.{needs}

@@ -9,7 +9,7 @@ use Rattle.processor.proofs.RunLaws.{runs}
 use Rattle.processor.proofs.TraceLaws.{Kept, traces}
 use Rattle.processor.proofs.run.run.Statement.{statement}
 use Rattle.processor.proofs.run.run.Tie as tie
-use Rattle.processor.specs.View.{as-machine}
+use Rattle.addressing.specs.View.{as-machine}
 
 abbrev Inv-loop : tie.InvT-loop
 Inv-loop memory₀ budget trace₀ table prs₀ x₀ count₀ memory trace prs x count =

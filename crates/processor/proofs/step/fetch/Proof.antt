@@ -1,7 +1,7 @@
 -- `step::fetch` meets its contract. Assumes nothing.
 use borrow.Author.Needs.{needs}
 use Rattle.processor.proofs.FetchLaws.{fetches}
-use Rattle.processor.proofs.UseLaws.{bounds}
+use Rattle.addressing.proofs.UseLaws.{bounds}
 use Rattle.processor.proofs.step.fetch.Statement.{statement}
 use Rattle.processor.proofs.step.fetch.Tie as tie
 

@@ -3,7 +3,7 @@ use borrow.Author.Needs.{needs}
 use Rattle.processor.proofs.StepLaws.{obeys}
 use Rattle.processor.proofs.step.obey.Statement.{statement}
 use Rattle.processor.proofs.step.obey.Tie as tie
-use Rattle.processor.specs.View.{ended}
+use Rattle.addressing.specs.View.{ended}
 
 operand-requires : tie.Need-operand-requires
 operand-requires c κs = search needs

@@ -4,7 +4,7 @@ use borrow.Author.Needs.{needs}
 use Rattle.processor.proofs.StepLaws.{performs, literal-arm}
 use Rattle.processor.proofs.step.perform.Statement.{statement}
 use Rattle.processor.proofs.step.perform.Tie as tie
-use Rattle.processor.specs.View.{ended}
+use Rattle.addressing.specs.View.{ended}
 
 enum-told : tie.Need-enum-told
 enum-told c = search needs

@@ -3,7 +3,7 @@ use borrow.Author.Needs.{needs}
 use Rattle.processor.proofs.StepLaws.{steps}
 use Rattle.processor.proofs.step.step.Statement.{statement}
 use Rattle.processor.proofs.step.step.Tie as tie
-use Rattle.processor.specs.View.{ended}
+use Rattle.addressing.specs.View.{ended}
 
 fetch-requires : tie.Need-fetch-requires
 fetch-requires c κs = search needs

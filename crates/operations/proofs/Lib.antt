@@ -1,0 +1,3 @@
+-- Laws of this crate. Assumes nothing.
+pub mod AccessLaws
+pub mod RegisterLaws

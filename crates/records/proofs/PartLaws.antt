@@ -1,0 +1,97 @@
+-- Bytes without a whole record of a known mark: 41 and 42. Assumes nothing.
+use mathlib.Core.Path.{_≡_, refl, sym, _∙_, ap}
+use mathlib.Core.Bool.{Bool, true}
+use mathlib.Core.List.{List, [], _∷_, _++_, append-nil}
+use mathlib.Core.Option.{some}
+use Prim.Native.Nat.{ℕ, _≤_, _<_}
+use native.Mathlib.Omega.{arith}
+use lib.ListN.{length, length-append}
+use borrow.Author.Tests.{lt-leb}
+use Rattle.model.specs.Image as Image
+use Rattle.model.specs.Image.{mark-of, record-size, refused-image, marked-on, bytes-on, image-after}
+use Rattle.model.proofs.ImageLaws.{image-record-by-record, image-needs-rn}
+use Rattle.records.specs.declared.mark.Mark.{Mark}
+use Rattle.records.specs.declared.mark.Mark.the-variants.{Memory, Start, Word, Run, Unknown}
+use Rattle.records.specs.declared.loading.Outcome.the-variants.{Refused}
+use Rattle.records.specs.Mark.{as-mark, size-of}
+use Rattle.records.specs.Record.{outcome-image, Goes}
+use Rattle.records.proofs.MarkLaws.{mark-of-front}
+
+pub part-is-short : (k : Mark) (bs : List ℕ) → length bs < size-of k → length bs < 61
+part-is-short Memory bs h = omega arith
+part-is-short Start bs h = omega arith
+part-is-short Word bs h = omega arith
+part-is-short Run bs h = omega arith
+part-is-short Unknown bs h = omega arith
+
+bytes-are-marked : (l : Image.Loading) (bs : List ℕ) (f : Image.Loading → List ℕ → Image.Image) → 1 ≤ length bs → bytes-on l bs f ≡ marked-on (mark-of bs) l bs f
+unfolding bytes-on
+bytes-are-marked l [] f h = absurd (omega arith)
+bytes-are-marked l (b ∷ bs) f h = refl
+
+some-bytes : (l : Image.Loading) (bs : List ℕ) → 1 ≤ length bs → image-after l bs ≡ marked-on (mark-of bs) l bs (λ j rest. image-after j rest)
+some-bytes l bs h = image-record-by-record l bs ∙ bytes-are-marked l bs _ h
+
+-- the mark is unknown, or the record isn't whole
+part-refused : (k : Mark) (l : Image.Loading) (bs : List ℕ) (f : Image.Loading → List ℕ → Image.Image) → length bs < size-of k → marked-on (as-mark k) l bs f ≡ refused-image 41
+unfolding marked-on record-size
+part-refused Memory l bs f h = rw (lt-leb _ _ h)
+part-refused Start l bs f h = rw (lt-leb _ _ h)
+part-refused Word l bs f h = rw (lt-leb _ _ h)
+part-refused Run l bs f h = rw (lt-leb _ _ h)
+part-refused Unknown l bs f h = refl
+
+no-length : (bs : List ℕ) → length bs ≡ 0 → bs ≡ []
+no-length [] e = refl
+no-length (b ∷ bs) e = absurd (omega arith)
+
+module _ (l : Image.Loading) (bs : List ℕ) (e : Bool) where
+  pub no-bytes : e ≡ true → length bs ≡ 0 → Goes l bs e (Refused 42) l
+  unfolding Goes outcome-image
+  no-bytes ended h rest f = rw (no-length bs h, f ended) (image-needs-rn l)
+
+  module _ (k : Mark) (q : as-mark k ≡ mark-of bs) where
+    pub part-ended : e ≡ true → (length bs ≡ 0 → ⊥) → length bs < size-of k → Goes l bs e (Refused 41) l
+    unfolding Goes outcome-image
+    part-ended ended n h rest f =
+        ap (λ xs. image-after l (bs ++ xs)) (f ended) ∙ ap (image-after l) (append-nil bs) ∙ some-bytes l bs (omega arith)
+        ∙ ap (λ x. marked-on x l bs (λ j xs. image-after j xs)) (sym q) ∙ part-refused k l bs _ h
+
+    pub unknown-mark : k ≡ Unknown → (s : ℕ) → s ≤ length bs → s ≡ size-of k → Goes l bs e (Refused 41) l
+    unfolding Goes outcome-image marked-on
+    unknown-mark u s h z rest _ =
+        let y : 2 ≤ length bs = rw (z, u) at h in
+        let w = length-append bs rest in
+        some-bytes l (bs ++ rest) (omega arith)
+        ∙ ap (λ x. marked-on x l (bs ++ rest) (λ j xs. image-after j xs)) (mark-of-front bs rest y ∙ sym q ∙ ap as-mark u)
+
+-- A WHOLE RECORD of each mark
+module _ (k : Mark) (bs : List ℕ) (q : as-mark k ≡ mark-of bs) where
+  pub marked-me : k ≡ Memory → mark-of bs ≡ some Image.ME
+  marked-me e = sym q ∙ ap as-mark e
+
+  pub marked-st : k ≡ Start → mark-of bs ≡ some Image.ST
+  marked-st e = sym q ∙ ap as-mark e
+
+  pub marked-wd : k ≡ Word → mark-of bs ≡ some Image.WD
+  marked-wd e = sym q ∙ ap as-mark e
+
+  pub marked-rn : k ≡ Run → mark-of bs ≡ some Image.RN
+  marked-rn e = sym q ∙ ap as-mark e
+
+module _ (k : Mark) (n s : ℕ) (h : s ≤ n) (q : s ≡ size-of k) where
+  pub whole-me : k ≡ Memory → 6 ≤ n
+  whole-me e = rw (q, e) at h
+
+  pub whole-st : k ≡ Start → 61 ≤ n
+  whole-st e = rw (q, e) at h
+
+  pub whole-wd : k ≡ Word → 14 ≤ n
+  whole-wd e = rw (q, e) at h
+
+  pub whole-rn : k ≡ Run → 6 ≤ n
+  whole-rn e = rw (q, e) at h
+
+pub ruleset parts = (part-is-short, no-bytes, part-ended)
+
+pub ruleset whole-records = (unknown-mark, marked-me, marked-st, marked-wd, marked-rn, whole-me, whole-st, whole-wd, whole-rn)

@@ -1,0 +1,56 @@
+// The registers in an ST record: A, DBR, then IPR and PR0 to PR7 as RING, SEGNO and WORDNO.
+ghost use mathlib.Core.Path.{_≡_};
+ghost use mathlib.Core.List.{map};
+ghost use Prim.Native.Nat.{_+_, _≤_};
+ghost use lib.ListN.{length};
+ghost use Rattle.model.specs.Image.{pointer-at, pointers-at, registers-at};
+ghost use Rattle.host.specs.Record.{pointer-of, registers-of};
+use crate::number::number_1;
+use crate::number::number_2;
+use crate::number::number_4;
+use crate::number::number_8;
+use host::record::DescriptorBase;
+use host::record::Pointer;
+use host::record::Registers;
+
+pub fn pointer_at(bytes: &[u8], at: usize) -> Pointer
+    requires { ⌜ at + 5 ≤ length (now bytes) ⌝ }
+    ensures { λ p. ⌜ pointer-of p ≡ pointer-at at (now (bytes .entry)) ⌝ }
+{
+    Pointer {
+        ring: number_1(bytes, at),
+        segment: number_2(bytes, at + 1),
+        word: number_2(bytes, at + 3),
+    }
+}
+
+pub fn prs_at(bytes: &[u8]) -> [Pointer; 8]
+    requires { ⌜ 61 ≤ length (now bytes) ⌝ }
+    ensures { λ prs. ⌜ map pointer-of prs ≡ pointers-at 8 21 (now (bytes .entry)) ⌝ }
+{
+    [
+        pointer_at(bytes, 21),
+        pointer_at(bytes, 26),
+        pointer_at(bytes, 31),
+        pointer_at(bytes, 36),
+        pointer_at(bytes, 41),
+        pointer_at(bytes, 46),
+        pointer_at(bytes, 51),
+        pointer_at(bytes, 56),
+    ]
+}
+
+pub fn registers_at(bytes: &[u8]) -> Registers
+    requires { ⌜ 61 ≤ length (now bytes) ⌝ }
+    ensures { λ r. ⌜ registers-of r ≡ registers-at (now (bytes .entry)) ⌝ }
+{
+    Registers {
+        a: number_8(bytes, 2),
+        dbr: DescriptorBase {
+            address: number_4(bytes, 10),
+            length: number_2(bytes, 14),
+        },
+        ipr: pointer_at(bytes, 16),
+        prs: prs_at(bytes),
+    }
+}
