@@ -1,5 +1,5 @@
 -- The pointer of every fault is in range: one law for every program of questions, then a line an access. Assumes nothing.
-use mathlib.Core.Path.{_≡_, refl, sym, subst}
+use mathlib.Core.Path.{_≡_, subst}
 use mathlib.Core.Bool.{Bool, _||_, not}
 use mathlib.Core.Option.{Option, none, some}
 use Prim.Native.Nat.{ℕ, zero, suc, _≤_}
@@ -11,7 +11,7 @@ use Rattle.model.specs.Registers.{Registers, Machine, dbr-in}
 use Rattle.model.specs.Opcodes.{Access, sets, reads, writes, updates, transfers, calls, returns, loads-dbr, ends-run, Opcode}
 use Rattle.model.specs.Questions.{dbr-fits, start-questions}
 use Rattle.model.specs.Program.{Program, fail, finish, halt, look, read, write, Outcome, faults, completes, halts, use-answer, or-fault, execute}
-use Rattle.model.specs.Step.{first-address, next-address, chain, with-operand, load, store, update, transfer, call, return, load-dbr, perform, obey, step-program, step}
+use Rattle.model.specs.Step.{chain, with-operand, load, store, update, transfer, call, return, load-dbr, perform, obey, step-program, step}
 use Rattle.model.proofs.BranchLaws.{cond-holds}
 use Rattle.model.proofs.WordLaws.{Within}
 use Rattle.model.proofs.LeavesLaws.{descriptor-r1-within}

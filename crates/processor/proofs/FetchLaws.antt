@@ -15,7 +15,7 @@ use Rattle.model.specs.Program.{Program, fail, faults, or-fault, execute}
 use Rattle.model.specs.Step.{obey, step-program, step}
 use Rattle.model.proofs.ProgramLaws.{or-fault-no, or-fault-yes}
 use Rattle.words.specs.View.{as-descriptor}
-use Rattle.words.specs.Table.{privileged, entry-of, Told}
+use Rattle.words.specs.Table.{entry-of, Told}
 use Rattle.words.specs.declared.descriptor.Descriptor.{Descriptor}
 use Rattle.words.specs.declared.opcodes.Kind.{Kind}
 use Rattle.words.specs.declared.opcodes.Kind.the-variants.{Unknown, Read, Write, Update, Literal, Address, Pointer, Transfer, Call, Return, Dbr, Halt}

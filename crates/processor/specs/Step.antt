@@ -2,7 +2,7 @@
 use mathlib.Core.Path.{_≡_}
 use mathlib.Core.Bool.{true, cond}
 use mathlib.Core.List.{List}
-use Prim.Native.Nat.{ℕ, _≤_}
+use Prim.Native.Nat.{ℕ}
 use lib.Dec.{eqb}
 use lib.ListN.{length}
 use mathlib.Core.Option.{Option, none, some}
@@ -10,18 +10,15 @@ use Rattle.model.specs.Words as Words
 use Rattle.model.specs.Words.{instruction-in}
 use Rattle.model.specs.Registers as Registers
 use Rattle.model.specs.Opcodes.{Opcode}
-use Rattle.model.specs.Questions.{ask, call-questions, new-ring, then-ask}
+use Rattle.model.specs.Questions.{ask}
 use Rattle.model.specs.Program.{Program, fail, execute, faults}
 use Rattle.model.specs.Step.{with-operand, perform, step}
 use Rattle.words.specs.Table.{known, privileged, entry-of}
 use Rattle.words.specs.declared.opcodes.Kind.{Kind}
 use Rattle.addressing.specs.View.{as-machine}
-use Rattle.addressing.specs.Translation.{descriptor-at, use-at}
 use Rattle.addressing.specs.declared.state.Core.{Core}
 use Rattle.processor.specs.declared.step.Fetched.{Fetched}
 use Rattle.processor.specs.declared.step.Fetched.the-variants as Fetched
-use Rattle.control.specs.declared.Checked.{Checked}
-use Rattle.control.specs.declared.Checked.the-variants as Checked
 
 -- 32 AND 33 by an opcode's kind
 unfoldable pub opcode-answer : Kind → (ring : ℕ) → ℕ

@@ -1,21 +1,25 @@
-//! Compares the second implementation with libkuzhlemor.a: `compare quick`, or `compare long N [SEED]`.
+//! Compares the second implementation with libkuzhlemor.a: `compare quick`, or `compare long N [SEED]`, which draws
+//! N machines and N images beside the directed ones.
 
 mod compare;
 mod describe;
 mod directed;
 mod generator;
 mod images;
+mod kept;
 mod library;
 mod random;
 mod reach;
 mod secrecy;
 
+use std::path::Path;
 use std::process::ExitCode;
 use std::time::Instant;
 
 use compare::{Comparer, Machine};
 use directed::Pairs;
 use generator::{budget, Generator};
+use kept::Input;
 use random::Random;
 use secrecy::{Leak, Secrecy};
 
@@ -40,18 +44,15 @@ fn main() -> ExitCode {
             Plan { seed: 1, grids: 3, machines: 3_000_000, pairs: 500_000, images: 100_000, damaged: 60, depth: 4 }
         }
         (Some("long"), 2 | 3) => match (number(1), number(2)) {
-            (Some(many), seed) if arguments.len() == 2 || seed.is_some() => {
-                let images = many / 10;
-                Plan {
-                    seed: seed.unwrap_or(1),
-                    grids: 1,
-                    machines: many - images - many / 10,
-                    pairs: many / 10,
-                    images,
-                    damaged: 60,
-                    depth: 5,
-                }
-            }
+            (Some(many), seed) if arguments.len() == 2 || seed.is_some() => Plan {
+                seed: seed.unwrap_or(1),
+                grids: 1,
+                machines: many,
+                pairs: many / 10,
+                images: many,
+                damaged: 60,
+                depth: 5,
+            },
             _ => {
                 eprintln!("{USAGE}");
                 return ExitCode::from(2);
@@ -89,6 +90,8 @@ fn carry_out(plan: &Plan) -> Result<(), String> {
 
     let count = directed::cases(&mut comparer).map_err(|failure| machine_differs(plan, *failure))?;
     clock.part(&format!("directed: {count} machines with the reply that 01 gives"));
+
+    kept_inputs(plan, &mut comparer, &mut clock)?;
 
     // Each part has its own numbers, so that no other part changes what it draws.
     let mut random = Random::new(plan.seed);
@@ -138,6 +141,32 @@ fn carry_out(plan: &Plan) -> Result<(), String> {
     }
     let (machines, images) = (comparer.machines + 2 * secrecy.pairs, comparer.images);
     println!("compare: {machines} machines, {images} images, none different");
+    Ok(())
+}
+
+/// The fuzzer's inputs.
+fn kept_inputs(plan: &Plan, comparer: &mut Comparer, clock: &mut Clock) -> Result<(), String> {
+    let folder = Path::new(env!("CARGO_MANIFEST_DIR")).join("../tests/fuzz/inputs");
+    let inputs = kept::inputs(&folder).map_err(|error| format!("compare: {}: {error}", folder.display()))?;
+    if inputs.is_empty() {
+        return Err(format!("compare: no inputs in {}", folder.display()));
+    }
+    let count = inputs.len();
+    for (name, input) in inputs {
+        match input {
+            Input::Machine(machine) => {
+                if let Err(difference) = comparer.machine(&machine) {
+                    return Err(machine_differs(plan, (format!("kept input {name}"), machine, difference)));
+                }
+            }
+            Input::Image { image, text_length } => {
+                if let Err(difference) = comparer.image(&image, text_length, 0xa5) {
+                    return Err(image_differs(plan, comparer, image, text_length, difference));
+                }
+            }
+        }
+    }
+    clock.part(&format!("kept: {count} inputs of the fuzzer"));
     Ok(())
 }
 

@@ -113,8 +113,7 @@ impl Reach {
         );
         println!("images, by the question answered no:");
         let listed = ("listed".to_string(), self.images_listed);
-        let rows =
-            IMAGE_QUESTIONS.iter().map(|&number| (number.to_string(), self.images_refused[usize::from(number)]));
+        let rows = IMAGE_QUESTIONS.iter().map(|&number| (number.to_string(), self.images_refused[usize::from(number)]));
         print_row(rows.chain([listed]), &mut missed);
         missed
     }
