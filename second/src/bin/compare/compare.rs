@@ -140,7 +140,7 @@ impl Comparer {
         let my_answer = second::bench(image, &mut mine[start..start + text_length]);
         let answer = crate::library::bench(&self.image[start..], &mut theirs[start..start + text_length]);
         if my_answer == answer && mine == theirs {
-            self.reach.image(answer);
+            self.reach.image(answer, &theirs[start..]);
             return Ok(answer);
         }
         let mut text = format!("kuzhlemor_bench with {text_length} bytes: second {my_answer}, library {answer}");

@@ -180,10 +180,10 @@ fn all_images(
     let differs = |comparer: &mut Comparer, (image, length, difference): images::Failure| {
         image_differs(plan, comparer, image, length, difference)
     };
-    let mut draw = |random: &mut Random, most: usize| {
+    let mut draw = |random: &mut Random, most: u32| {
         let mut machine = Machine::default();
         generator.draw(random, &mut machine, 0);
-        let budget = budget(random).min(random.between(0, most) as u32);
+        let budget = budget(random).min(most);
         generator.code(random, &mut machine, budget);
         machine
     };
@@ -202,7 +202,7 @@ fn all_images(
     clock.part(&format!("images: {count}, every damage of {} images", plan.damaged));
 
     for _ in 0..plan.images / 2 {
-        let machine = draw(random, 2000);
+        let machine = draw(random, u32::MAX);
         images::whole(comparer, random, &machine).map_err(|failure| differs(comparer, failure))?;
         let machine = draw(random, 100);
         images::damaged(comparer, random, &machine).map_err(|failure| differs(comparer, failure))?;

@@ -1,62 +1,36 @@
 //! What the inputs reached.
 
-use crate::compare::Machine;
-use second::{Opcode, Registers, Reply};
+use std::collections::BTreeMap;
 
-/// The questions of a machine, and those of an image beyond them.
+use crate::compare::Machine;
+use second::{Fault, Opcode, Pointer, Registers, Reply};
+
+/// The questions of a machine, and those of an image: a memory of at most 8,192 words has no 1.
 pub const QUESTIONS: [u8; 23] =
     [1, 2, 3, 4, 11, 12, 13, 14, 15, 21, 22, 23, 24, 25, 26, 27, 28, 29, 30, 31, 32, 33, 34];
-pub const IMAGE_QUESTIONS: [u8; 8] = [41, 42, 43, 44, 2, 3, 4, 45];
+pub const IMAGE_QUESTIONS: [u8; 27] =
+    [41, 42, 43, 44, 2, 3, 4, 45, 11, 12, 13, 14, 15, 21, 22, 23, 24, 25, 26, 27, 28, 29, 30, 31, 32, 33, 34];
 
-pub struct Reach {
-    steps: u64,
-    completed: [u64; 256],
-    answered_no: [u64; 46],
-    images_refused: [u64; 46],
-    images_listed: u64,
+/// How runs ended, and how far they went.
+#[derive(Default)]
+struct Runs {
+    answered_no: BTreeMap<u8, u64>,
     spent: u64,
     halted: u64,
     longest: u32,
     /// Runs of at least 1, 10, 100 and 1000 completed steps.
     longer: [u64; 4],
-    changed_memory: u64,
-    changed_descriptors: u64,
-    changed_dbr: u64,
 }
 
-impl Reach {
-    pub fn new() -> Reach {
-        Reach {
-            steps: 0,
-            completed: [0; 256],
-            answered_no: [0; 46],
-            images_refused: [0; 46],
-            images_listed: 0,
-            spent: 0,
-            halted: 0,
-            longest: 0,
-            longer: [0; 4],
-            changed_memory: 0,
-            changed_descriptors: 0,
-            changed_dbr: 0,
-        }
-    }
-
-    pub fn step(&mut self, opcode: Option<u8>, reply: Reply) {
-        if let (Reply::Spent { .. } | Reply::Halted { .. }, Some(opcode)) = (reply, opcode) {
-            self.steps += 1;
-            self.completed[usize::from(opcode)] += 1;
-        }
-    }
-
-    pub fn run(&mut self, reply: Reply) {
+impl Runs {
+    fn ended(&mut self, reply: Reply) {
         let count = match reply {
             Reply::Refused { number } => {
-                self.answered_no[usize::from(number)] += 1;
+                self.no(number);
                 0
             }
             Reply::Fault { fault, count } => {
-                self.answered_no[usize::from(fault.number)] += 1;
+                self.no(fault.number);
                 count
             }
             Reply::Spent { count } => {
@@ -74,6 +48,57 @@ impl Reach {
         }
     }
 
+    fn no(&mut self, number: u8) {
+        *self.answered_no.entry(number).or_default() += 1;
+    }
+
+    fn print(&self, questions: &[u8], missed: &mut Vec<String>) {
+        let no =
+            questions.iter().map(|number| (number.to_string(), self.answered_no.get(number).copied().unwrap_or(0)));
+        let others = [("spent".to_string(), self.spent), ("halted".to_string(), self.halted)];
+        print_row(no.chain(others), missed);
+        let [one, ten, hundred, thousand] = self.longer;
+        println!(
+            "  of at least 1, 10, 100, 1000 steps: {one} {ten} {hundred} {thousand}; the longest: {}",
+            self.longest
+        );
+    }
+}
+
+pub struct Reach {
+    steps: u64,
+    completed: [u64; 256],
+    machines: Runs,
+    images: Runs,
+    changed_memory: u64,
+    changed_descriptors: u64,
+    changed_dbr: u64,
+}
+
+impl Reach {
+    pub fn new() -> Reach {
+        Reach {
+            steps: 0,
+            completed: [0; 256],
+            machines: Runs::default(),
+            images: Runs::default(),
+            changed_memory: 0,
+            changed_descriptors: 0,
+            changed_dbr: 0,
+        }
+    }
+
+    pub fn step(&mut self, opcode: Option<u8>, reply: Reply) {
+        if let (Reply::Spent { .. } | Reply::Halted { .. }, Some(opcode)) = (reply, opcode) {
+            self.steps += 1;
+            self.completed[usize::from(opcode)] += 1;
+        }
+    }
+
+    pub fn run(&mut self, reply: Reply) {
+        self.machines.ended(reply);
+    }
+
     /// What a run that wasn't refused changed.
     pub fn changes(&mut self, machine: &Machine, registers: &Registers, memory: &[u64]) {
         let dbr = machine.registers.dbr;
@@ -83,11 +108,13 @@ impl Reach {
         self.changed_dbr += u64::from(dbr != registers.dbr);
     }
 
-    pub fn image(&mut self, answer: i64) {
-        match usize::try_from(-answer) {
-            Ok(number) if number > 0 => self.images_refused[number] += 1,
-            _ => self.images_listed += 1,
-        }
+    /// The bench's answer, and its text where there is one.
+    pub fn image(&mut self, answer: i64, text: &[u8]) {
+        let reply = match usize::try_from(answer) {
+            Ok(length) => last_line(&text[..length]),
+            Err(_) => Reply::Refused { number: answer.unsigned_abs() as u8 },
+        };
+        self.images.ended(reply);
     }
 
     /// Prints the tables; answers what was never reached.
@@ -98,24 +125,29 @@ impl Reach {
             (format!("{number} {}", format!("{opcode:?}").to_uppercase()), self.completed[usize::from(number)])
         });
         print_row(rows, &mut missed);
-        println!("machines, by the question answered no:");
-        let rows = QUESTIONS.iter().map(|&number| (number.to_string(), self.answered_no[usize::from(number)]));
-        print_row(rows, &mut missed);
-        println!("machines, otherwise:");
-        print_row([("spent".to_string(), self.spent), ("halted".to_string(), self.halted)].into_iter(), &mut missed);
+        println!("runs of machines, by the question answered no:");
+        self.machines.print(&QUESTIONS, &mut missed);
         println!(
-            "runs of at least 1, 10, 100, 1000 steps: {} {} {} {}; the longest: {}",
-            self.longer[0], self.longer[1], self.longer[2], self.longer[3], self.longest
-        );
-        println!(
-            "machines that changed memory: {}; a descriptor word: {}; DBR: {}",
+            "  that changed memory: {}; a descriptor word: {}; DBR: {}",
             self.changed_memory, self.changed_descriptors, self.changed_dbr
         );
         println!("images, by the question answered no:");
-        let listed = ("listed".to_string(), self.images_listed);
-        let rows = IMAGE_QUESTIONS.iter().map(|&number| (number.to_string(), self.images_refused[usize::from(number)]));
-        print_row(rows.chain([listed]), &mut missed);
+        self.images.print(&IMAGE_QUESTIONS, &mut missed);
         missed
+    }
+}
+
+/// The reply that a listing ends with.
+fn last_line(text: &[u8]) -> Reply {
+    let text = std::str::from_utf8(text).unwrap_or_default().trim_end();
+    let line = text.rsplit('\n').next().unwrap_or_default();
+    let mut words = line.split(' ');
+    let kind = words.next();
+    let mut number = || words.next().and_then(|number| number.parse().ok()).unwrap_or(0_u32);
+    match kind {
+        Some("spent") => Reply::Spent { count: number() },
+        Some("halted") => Reply::Halted { count: number() },
+        _ => Reply::Fault { fault: Fault { number: number() as u8, at: Pointer::default() }, count: number() },
     }
 }
 
