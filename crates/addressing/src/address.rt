@@ -5,14 +5,14 @@ ghost use lib.ListN.{length};
 ghost use Rattle.model.specs.Words.{instruction-in};
 ghost use Rattle.model.specs.Step as Step;
 ghost use Rattle.words.specs.View.{as-pointer, as-descriptor, Pointer-within};
-ghost use Rattle.words.specs.Table as Table;
+ghost use Rattle.opcodes.specs.Table as Table;
 ghost use Rattle.addressing.specs.View.{as-dbr, as-registers, as-machine, Ready};
 ghost use Rattle.addressing.specs.Address.{pointed, Addressed, operand-formed};
 use crate::state::Core;
 use crate::translate::Dbr;
 use crate::translate::Translated;
+use opcodes::table::Kind;
 use words::descriptor::Descriptor;
-use words::opcodes::Kind;
 use words::pointer::Pointer;
 
 // What a pointer word answers: a question's number, or where it leads and whether I is on there.
@@ -105,7 +105,7 @@ pub fn operand(core: Core, prs: &[u64; 8], memory: &[u64], w: u64, kind: Kind) -
     requires { ⌜ Ready core (now memory) ⌝ }
     ensures { λ x. ⌜ operand-formed (Table.operand kind) (instruction-in w) (as-machine core (now (prs .entry)) (now (memory .entry))) x ⌝ }
 {
-    if !words::opcodes::has_operand(kind) {
+    if !opcodes::table::has_operand(kind) {
         let ipr = core.ipr;
         return Address::Good(ipr);
     }

@@ -14,7 +14,7 @@ use Rattle.model.specs.Program.{faults, completes, descriptor-of, use-answer, o
 use Rattle.model.specs.Step as Step
 use Rattle.model.proofs.ProgramLaws.{or-fault-no, or-fault-yes}
 use Rattle.words.specs.View.{as-descriptor}
-use Rattle.words.specs.Table.{taken}
+use Rattle.opcodes.specs.Table.{taken}
 use Rattle.words.specs.declared.descriptor.Descriptor.{Descriptor}
 use Rattle.addressing.specs.Translation.{descriptor-at, Passes, translated}
 use Rattle.control.specs.Call.{call-answer, checked}

@@ -7,7 +7,7 @@ ghost use Rattle.model.specs.Words.{instruction-in};
 ghost use Rattle.model.specs.Registers as Registers;
 ghost use Rattle.model.specs.Step as Step;
 ghost use Rattle.words.specs.View.{as-pointer, Pointer-within};
-ghost use Rattle.words.specs.Table.{taken};
+ghost use Rattle.opcodes.specs.Table.{taken};
 ghost use Rattle.addressing.specs.View.{as-dbr, as-registers, as-pointers, Ready, does, does-with-any-prs};
 ghost use Rattle.control.specs.Call.{checked};
 use addressing::state::After;
@@ -24,7 +24,7 @@ pub fn transfer(core: Core, memory: &[u64], w: u64, t: Pointer) -> After
     requires { ⌜ Ready core (now memory) ⌝ }
     ensures { λ x. ⌜ does-with-any-prs core (now (memory .entry)) (λ r. Step.transfer (taken (instruction-in w .opcode) (core .a)) r (as-pointer t)) x (now (memory .entry)) ⌝ }
 {
-    if !words::opcodes::is_taken(words::instruction::opcode(w), core.a) {
+    if !opcodes::table::is_taken(words::instruction::opcode(w), core.a) {
         return After {
             core: addressing::state::advanced(core),
             end: End::Completed,

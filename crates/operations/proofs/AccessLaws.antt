@@ -14,7 +14,7 @@ use Rattle.model.specs.Questions.{ask, may-read, may-write, read-questions, wri
 use Rattle.model.specs.Program.{faults, completes, execute}
 use Rattle.model.specs.Step as Step
 use Rattle.words.specs.View.{as-descriptor}
-use Rattle.words.specs.Table.{result}
+use Rattle.opcodes.specs.Table.{result}
 use Rattle.words.specs.declared.descriptor.Descriptor.{Descriptor}
 use Rattle.addressing.specs.Translation.{translated}
 use Rattle.addressing.specs.declared.translate.Translated.{Translated}

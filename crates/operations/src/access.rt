@@ -4,7 +4,7 @@ ghost use Rattle.model.specs.Words.{instruction-in};
 ghost use Rattle.model.specs.Opcodes.{sum};
 ghost use Rattle.model.specs.Step as Step;
 ghost use Rattle.words.specs.View.{as-pointer};
-ghost use Rattle.words.specs.Table.{result};
+ghost use Rattle.opcodes.specs.Table.{result};
 ghost use Rattle.addressing.specs.View.{Ready, does-with-any-prs};
 use addressing::state::After;
 use addressing::state::Core;
@@ -32,7 +32,7 @@ pub fn load(core: Core, memory: &[u64], w: u64, t: Pointer) -> After
                 };
             }
             let v = addressing::segment::read(memory, d, t.word);
-            let a = words::opcodes::result_of(words::instruction::opcode(w), core.a, v);
+            let a = opcodes::table::result_of(words::instruction::opcode(w), core.a, v);
             After {
                 core: addressing::state::advanced(addressing::state::with_a(core, a)),
                 end: End::Completed,
@@ -93,7 +93,7 @@ pub fn update(core: Core, memory: &mut [u64], t: Pointer) -> After
                 };
             }
             let v = addressing::segment::read(memory, d, t.word);
-            addressing::segment::write(memory, d, t.word, words::arithmetic::add(v, 1));
+            addressing::segment::write(memory, d, t.word, opcodes::arithmetic::add(v, 1));
             After {
                 core: addressing::state::advanced(core),
                 end: End::Completed,

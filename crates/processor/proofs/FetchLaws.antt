@@ -15,10 +15,10 @@ use Rattle.model.specs.Program.{Program, fail, faults, or-fault, execute}
 use Rattle.model.specs.Step.{obey, step-program, step}
 use Rattle.model.proofs.ProgramLaws.{or-fault-no, or-fault-yes}
 use Rattle.words.specs.View.{as-descriptor}
-use Rattle.words.specs.Table.{entry-of, Told}
+use Rattle.opcodes.specs.Table.{entry-of, Told}
 use Rattle.words.specs.declared.descriptor.Descriptor.{Descriptor}
-use Rattle.words.specs.declared.opcodes.Kind.{Kind}
-use Rattle.words.specs.declared.opcodes.Kind.the-variants.{Unknown, Read, Write, Update, Literal, Address, Pointer, Transfer, Call, Return, Dbr, Halt}
+use Rattle.opcodes.specs.declared.table.Kind.{Kind}
+use Rattle.opcodes.specs.declared.table.Kind.the-variants.{Unknown, Read, Write, Update, Literal, Address, Pointer, Transfer, Call, Return, Dbr, Halt}
 use Rattle.addressing.specs.declared.translate.Translated.{Translated}
 use Rattle.addressing.specs.declared.translate.Translated.the-variants.{Refused, Passed}
 use Rattle.addressing.specs.Translation.{translated}

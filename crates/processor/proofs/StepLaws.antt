@@ -11,10 +11,10 @@ use Rattle.model.specs.Opcodes.{sum}
 use Rattle.model.specs.Program.{faults, halts, execute}
 use Rattle.model.specs.Step.{load, store, update, transfer, call, return, load-dbr, with-operand, perform, step}
 use Rattle.words.specs.View.{as-pointer}
-use Rattle.words.specs.Table.{operand, result, taken, entry-of}
+use Rattle.opcodes.specs.Table.{operand, result, taken, entry-of}
 use Rattle.words.specs.declared.pointer.Pointer as Code
-use Rattle.words.specs.declared.opcodes.Kind.{Kind}
-use Rattle.words.specs.declared.opcodes.Kind.the-variants.{Unknown, Read, Write, Update, Literal, Address, Pointer, Transfer, Call, Return, Dbr, Halt}
+use Rattle.opcodes.specs.declared.table.Kind.{Kind}
+use Rattle.opcodes.specs.declared.table.Kind.the-variants.{Unknown, Read, Write, Update, Literal, Address, Pointer, Transfer, Call, Return, Dbr, Halt}
 use Rattle.addressing.specs.declared.address.Address as Formed
 use Rattle.addressing.specs.declared.address.Address.the-variants.{Bad, Good}
 use Rattle.addressing.specs.declared.state.End.{End}

@@ -13,8 +13,8 @@ use Rattle.model.specs.Opcodes.{Opcode}
 use Rattle.model.specs.Questions.{ask}
 use Rattle.model.specs.Program.{Program, fail, execute, faults}
 use Rattle.model.specs.Step.{with-operand, perform, step}
-use Rattle.words.specs.Table.{known, privileged, entry-of}
-use Rattle.words.specs.declared.opcodes.Kind.{Kind}
+use Rattle.opcodes.specs.Table.{known, privileged, entry-of}
+use Rattle.opcodes.specs.declared.table.Kind.{Kind}
 use Rattle.addressing.specs.View.{as-machine}
 use Rattle.addressing.specs.declared.state.Core.{Core}
 use Rattle.processor.specs.declared.step.Fetched.{Fetched}

@@ -45,7 +45,7 @@ pub fn run(core: Core, start: [u64; 8], memory: &mut [u64], budget: u32, trace: 
     requires { ⌜ start-questions (as-machine core start (now memory)) ≡ 0 ⌝ }
     ensures { λ x. ⌜ Ran-as (Run.run-from budget 0 (as-machine core start (now (memory .entry)))) x (now (memory .exit)) × Traced budget (as-machine core start (now (memory .entry))) x (now (trace .entry)) (now (trace .exit)) ⌝ }
 {
-    let table = words::opcodes::table();
+    let table = opcodes::table::table();
     let mut prs = start;
     // The core field by field: a whole copy would carry the padding of its record along the loop.
     let mut x = After {

@@ -5,7 +5,7 @@ ghost use lib.ListN.{length};
 ghost use Rattle.model.specs.Words.{instruction-in};
 ghost use Rattle.model.specs.Step as Step;
 ghost use Rattle.model.specs.Questions.{ask};
-ghost use Rattle.words.specs.Table.{Right-table};
+ghost use Rattle.opcodes.specs.Table.{Right-table};
 ghost use Rattle.words.specs.View.{as-pointer, Pointer-within};
 ghost use Rattle.addressing.specs.View.{as-registers, as-machine, Ready, does, ended};
 ghost use Rattle.processor.specs.Step.{opcode-answer, fetched-with-any-prs, performed, obeyed, entry-in};
@@ -14,7 +14,7 @@ use addressing::state::After;
 use addressing::state::Core;
 use addressing::state::End;
 use addressing::translate::Translated;
-use words::opcodes::Kind;
+use opcodes::table::Kind;
 use words::pointer::Pointer;
 
 // A question's number at IPR, or the instruction with its opcode's kind.
@@ -64,7 +64,7 @@ pub fn fetch(core: Core, memory: &[u64], table: &[u8; 256]) -> Fetched
                 return Fetched::Refused(21);
             }
             let w = addressing::segment::read(memory, d, ipr.word);
-            let kind = words::opcodes::kind_of(table, words::instruction::opcode(w));
+            let kind = opcodes::table::kind_of(table, words::instruction::opcode(w));
             let n = kind_answer(kind, ipr.ring);
             if n != 0 {
                 return Fetched::Refused(n);

@@ -1,0 +1,3 @@
+// What opcodes are: the table of their kinds, and A's operations, each equal to its definition in `model`.
+pub mod arithmetic;
+pub mod table;
