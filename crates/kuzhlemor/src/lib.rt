@@ -3,12 +3,10 @@ ghost use mathlib.Core.Path.{_≡_};
 ghost use Rattle.model.specs.Answers as Answers;
 ghost use Rattle.model.specs.Registers as Model;
 ghost use Rattle.processor.specs.Run.{as-reply, Reply-within};
-ghost use Rattle.machine.specs.ByValue.{as-step-reply, Step-reply-within};
 ghost use Rattle.model.specs.Bench as Bench;
 ghost use Rattle.kuzhlemor.specs.Entry.{as-numbers, Run-says, Step-says};
 use host::record::Pointer;
 use host::record::Registers;
-use machine::StepReply;
 use processor::run::Reply;
 
 // An answer as numbers. Kinds: 0 refused, 1 spent or completed, 2 halted, 3 fault; what a kind leaves free is 0.
@@ -57,23 +55,6 @@ fn run_answer(reply: Reply) -> Answer
     }
 }
 
-fn step_answer(reply: StepReply) -> Answer
-    requires { ⌜ Step-reply-within reply ⌝ }
-    ensures { λ x. ⌜ as-numbers x ≡ Answers.step-numbers (as-step-reply reply) ⌝ }
-{
-    match reply {
-        StepReply::Refused(n) => answer_without_pointer(0, n as u32, 0),
-        StepReply::Completed => answer_without_pointer(1, 0, 1),
-        StepReply::Halted => answer_without_pointer(2, 0, 1),
-        StepReply::Fault(n, t) => Answer {
-            kind: 3,
-            number: n as u32,
-            count: 0,
-            pointer: host::record::from_core(t),
-        },
-    }
-}
-
 pub fn run_answered(registers: Registers, memory: &mut [u64], budget: u32) -> Answered
     ensures { λ x. ⌜ Run-says budget registers (now (memory .entry)) (x .answer) (x .registers) (now (memory .exit)) ⌝ }
 {
@@ -86,16 +67,11 @@ pub fn run_answered(registers: Registers, memory: &mut [u64], budget: u32) -> An
     }
 }
 
+// A single step answers as a run of that one step does.
 pub fn step_answered(registers: Registers, memory: &mut [u64]) -> Answered
     ensures { λ x. ⌜ Step-says registers (now (memory .entry)) (x .answer) (x .registers) (now (memory .exit)) ⌝ }
 {
-    let x = machine::step(registers, memory);
-    let after = x.registers;
-    let reply = x.reply;
-    Answered {
-        answer: step_answer(reply),
-        registers: after,
-    }
+    run_answered(registers, memory, 1)
 }
 
 // One step on the host's own record: read whole, stepped, and stored whole.

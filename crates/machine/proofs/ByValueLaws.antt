@@ -1,4 +1,4 @@
--- A run and a step by value: refused, or the core's run and its registers put back. Assumes nothing.
+-- A run by value: refused, or the core's run and its registers put back. Assumes nothing.
 use mathlib.Core.Path.{_≡_, refl, sym, _∙_, ap}
 use mathlib.Core.List.{List}
 use Prim.Native.Nat.{ℕ, zero, suc, _≤_}
@@ -6,19 +6,15 @@ use lib.Dec.{leb}
 use borrow.Author.Tests.{leb-true}
 use Rattle.model.specs.Registers.{Registers, Machine}
 use Rattle.model.specs.Questions.{all, pointer-in-range, registers-in-range, dbr-fits, start-questions}
-use Rattle.model.specs.Program.{Outcome, faults, completes, halts}
-use Rattle.model.specs.Step.{step}
 use Rattle.model.specs.Run as Run
-use Rattle.model.specs.Run.{ran, unless-refused, run-on, run-from, run, after, stepped, stepped-to, single-step}
+use Rattle.model.specs.Run.{ran, run-from, run}
 use Rattle.model.proofs.BranchLaws.{and-left, and-right}
 use Rattle.model.proofs.QuestionLaws.{ask-yes}
 use Rattle.model.proofs.RunLaws.{run-refused, run-goes}
-use Rattle.model.proofs.CountLaws.{single-step-runs}
 use Rattle.addressing.specs.View.{as-machine}
 use Rattle.host.specs.declared.prepare.Prepared.{Prepared}
 use Rattle.host.specs.Record.{Prepared-as}
 use Rattle.host.proofs.PrepareLaws.{prepared-passes}
-use Rattle.machine.specs.ByValue.{step-reply-of}
 use Rattle.processor.proofs.RunLaws.{passing-ring, passing-segment}
 
 -- x is the record in the core's form, and q and v are its registers and memory
@@ -81,33 +77,3 @@ module _ (m : Machine) (e : start-questions m ≡ 0) where
       (and-left (leb (m .registers .dbr .length) 4096) _ (ask-yes _ _ _ (ask-yes _ _ _ (ask-yes _ _ _ (ask-yes _ _ _ e .1) .1) .1) .0))
 
 pub ruleset runs-by-value = (refused-reply, refused-registers, refused-memory, prepared-passes, ran-reply, ran-registers, ran-memory, passing-ring, passing-segment, passing-address, passing-length)
-
--- A STEP is a run with budget 1
-single-step-replies : (m : Machine) → single-step m .reply ≡ step-reply-of (run 1 m .reply)
-unfolding single-step run unless-refused stepped-to stepped ran run-from run-on step-reply-of
-single-step-replies m = by-answer (start-questions m)
-  where
-    by-outcome : (x : Outcome) → stepped-to m x .reply ≡ step-reply-of (run-on 0 m x (λ k. run-from 0 1 k) .reply)
-    by-outcome (faults n t) = refl
-    by-outcome (halts k) = refl
-    by-outcome (completes k) = refl
-
-    by-answer : (a : ℕ) →
-        unless-refused a (λ n. stepped (Run.StepReply.refused n) m) (stepped-to m (step m)) .reply
-        ≡ step-reply-of (unless-refused a (λ n. ran (Run.Reply.refused n) m) (run-from 1 0 m) .reply)
-    by-answer zero = by-outcome (step m)
-    by-answer (suc n) = refl
-
-module _ (m : Machine) where
-  pub stepped-reply : (x : Run.StepReply) (y : Run.Reply) → x ≡ step-reply-of y → y ≡ run 1 m .reply → x ≡ single-step m .reply
-  stepped-reply x y e f = e ∙ ap step-reply-of f ∙ sym (single-step-replies m)
-
-  pub stepped-registers : (q : Registers) → q ≡ run 1 m .machine .registers → q ≡ single-step m .machine .registers
-  unfolding after
-  stepped-registers q e = e ∙ sym (ap (λ k. k .registers) (single-step-runs m .0))
-
-  pub stepped-memory : (v : List ℕ) → v ≡ run 1 m .machine .memory → v ≡ single-step m .machine .memory
-  unfolding after
-  stepped-memory v e = e ∙ sym (ap (λ k. k .memory) (single-step-runs m .0))
-
-pub ruleset steps-by-value = (stepped-reply, stepped-registers, stepped-memory)

@@ -1,23 +1,26 @@
--- `step_answered` meets its contract: the reply of `machine::step` as numbers, beside its registers. Assumes nothing.
-use mathlib.Core.Path.{_∙_, ap}
-use Rattle.model.specs.Answers.{step-numbers}
+-- `step_answered` meets its contract: a single step answers and leaves what a run of that one step does. Assumes nothing.
+use mathlib.Core.Path.{sym, _∙_, ap}
+use Rattle.model.specs.Run.{after}
+use Rattle.model.proofs.CountLaws.{single-step-runs}
 use borrow.Author.Needs.{needs}
 use Rattle.kuzhlemor.proofs.step_answered.Statement.{statement}
 use Rattle.kuzhlemor.proofs.step_answered.Tie as tie
 
-step-requires : tie.Need-step-requires
-step-requires c κs = search needs
-
-step-answer-requires : tie.Need-step-answer-requires
-step-answer-requires c κs = search needs
+run-answered-requires : tie.Need-run-answered-requires
+run-answered-requires c κs = search needs
 
 same-length : tie.Need-same-length
 same-length c = search needs
 
 returns : tie.Need-returns
+unfolding after
 returns c =
-    let s = c .before .before .before .before .step .ensures in
-    record { answer-same = c .step-answer .ensures ∙ ap step-numbers (s .reply-same); registers-same = s .registers-same; memory-same = s .memory-same }
+    let s = c .before .before .run-answered .ensures in
+    record {
+      answer-same = s .answer-same ∙ sym (single-step-runs _ .1);
+      registers-same = s .registers-same ∙ sym (ap (λ k. k .registers) (single-step-runs _ .0));
+      memory-same = s .memory-same ∙ sym (ap (λ k. k .memory) (single-step-runs _ .0));
+    }
 
 pub step-answered-spec : {M : Type 1} → statement M
-step-answered-spec = tie.close (tie.spec step-requires step-answer-requires same-length returns)
+step-answered-spec = tie.close (tie.spec run-answered-requires same-length returns)
