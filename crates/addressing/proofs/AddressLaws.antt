@@ -13,10 +13,10 @@ use Rattle.model.specs.Questions.{ask, then-ask, may-read, read-questions}
 use Rattle.model.specs.Step.{first-address, next-address}
 use Rattle.words.specs.View.{as-descriptor}
 use Rattle.words.specs.declared.descriptor.Descriptor.{Descriptor}
-use Rattle.addressing.specs.Translation.{Passes, translated}
+use Rattle.segments.specs.Translation.{Passes, translated}
 use Rattle.addressing.specs.Address.{pointer-answer, pointer-word-at, pointer-leads}
-use Rattle.addressing.specs.declared.translate.Translated.{Translated}
-use Rattle.addressing.specs.declared.translate.Translated.the-variants.{Refused, Passed}
+use Rattle.segments.specs.declared.translate.Translated.{Translated}
+use Rattle.segments.specs.declared.translate.Translated.the-variants.{Refused, Passed}
 
 -- WHERE A POINTER WORD LEADS
 pub next-address-same : (t : Pointer) (d : Words.Descriptor) (w l k n s i : ℕ) →

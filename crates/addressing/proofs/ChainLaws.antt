@@ -11,12 +11,12 @@ use Rattle.model.specs.Program.{Program, Outcome, faults, execute, descriptor-o
 use Rattle.model.specs.Step.{first-address, chain}
 use Rattle.words.specs.View.{as-pointer, Pointer-within}
 use Rattle.words.specs.declared.pointer.Pointer as Code
-use Rattle.addressing.specs.Translation.{descriptor-at, use-at}
+use Rattle.segments.specs.Translation.{descriptor-at, use-at}
 use Rattle.addressing.specs.Address.{pointer-answer, pointer-word-at, pointer-leads, pointed, Formed, bad, good, or-bad, through, Addressed, operand-program, operand-formed}
-use Rattle.addressing.specs.declared.address.Pointed.{Pointed}
-use Rattle.addressing.specs.declared.address.Pointed.the-variants.{Refused, Next}
-use Rattle.addressing.specs.declared.address.Address.{Address}
-use Rattle.addressing.specs.declared.address.Address.the-variants.{Bad, Good}
+use Rattle.addressing.specs.declared.Pointed.{Pointed}
+use Rattle.addressing.specs.declared.Pointed.the-variants.{Refused, Next}
+use Rattle.addressing.specs.declared.Address.{Address}
+use Rattle.addressing.specs.declared.Address.the-variants.{Bad, Good}
 
 or-bad-no : (k : ℕ) (t : Pointer) (x : Formed) → 1 ≤ k → or-bad k t x ≡ bad k t
 unfolding or-bad

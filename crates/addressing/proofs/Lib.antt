@@ -1,7 +1,3 @@
 -- Laws of this crate. Assumes nothing.
-pub mod TranslateLaws
-pub mod SegmentLaws
-pub mod StateLaws
-pub mod UseLaws
 pub mod AddressLaws
 pub mod ChainLaws

@@ -11,11 +11,11 @@ use Rattle.model.specs.Questions.{then-ask, read-questions}
 use Rattle.model.specs.Program.{Program, execute, faults}
 use Rattle.model.specs.Step.{next-address, first-address, chain}
 use Rattle.words.specs.View.{as-pointer, Pointer-within}
-use Rattle.addressing.specs.Translation.{descriptor-at, use-at}
-use Rattle.addressing.specs.declared.address.Pointed.{Pointed}
-use Rattle.addressing.specs.declared.address.Pointed.the-variants.{Refused, Next}
-use Rattle.addressing.specs.declared.address.Address.{Address}
-use Rattle.addressing.specs.declared.address.Address.the-variants.{Bad, Good}
+use Rattle.segments.specs.Translation.{descriptor-at, use-at}
+use Rattle.addressing.specs.declared.Pointed.{Pointed}
+use Rattle.addressing.specs.declared.Pointed.the-variants.{Refused, Next}
+use Rattle.addressing.specs.declared.Address.{Address}
+use Rattle.addressing.specs.declared.Address.the-variants.{Bad, Good}
 
 -- A POINTER WORD: 11 to 15, 22, and where it leads
 unfoldable pub pointer-answer : Registers.Dbr → (memory : List ℕ) → Words.Pointer → ℕ

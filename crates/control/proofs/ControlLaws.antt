@@ -16,13 +16,13 @@ use Rattle.model.proofs.ProgramLaws.{or-fault-no, or-fault-yes}
 use Rattle.words.specs.View.{as-descriptor}
 use Rattle.opcodes.specs.Table.{taken}
 use Rattle.words.specs.declared.descriptor.Descriptor.{Descriptor}
-use Rattle.addressing.specs.Translation.{descriptor-at, Passes, translated}
+use Rattle.segments.specs.Translation.{descriptor-at, Passes, translated}
 use Rattle.control.specs.Call.{call-answer, checked}
-use Rattle.addressing.specs.declared.translate.Translated.{Translated}
-use Rattle.addressing.specs.declared.translate.Translated.the-variants.{Refused, Passed}
+use Rattle.segments.specs.declared.translate.Translated.{Translated}
+use Rattle.segments.specs.declared.translate.Translated.the-variants.{Refused, Passed}
 use Rattle.control.specs.declared.Checked.{Checked}
 use Rattle.control.specs.declared.Checked.the-variants as Checked
-use Rattle.addressing.proofs.UseLaws.{use-answer-at, then-ask-no, refused-faults, no-faults, yes-goes-on}
+use Rattle.segments.proofs.UseLaws.{use-answer-at, then-ask-no, refused-faults, no-faults, yes-goes-on}
 
 -- 25
 module _ (t : Pointer) (d : Descriptor) (b : Bool) (f : b ≡ may-execute t (as-descriptor d)) where

@@ -9,7 +9,7 @@ use lib.ListN.{length, getD, set, length-map, List·getD-map}
 use Rattle.model.specs.Words.{Pointer, pointer-in}
 use Rattle.model.specs.Registers.{with-ring-at-least}
 use Rattle.model.proofs.WordLaws.{pointer-in-within}
-use Rattle.addressing.specs.View.{as-pointers}
+use Rattle.segments.specs.View.{as-pointers}
 
 -- the first `count` raised, the rest as they were
 unfoldable pub raised-first : (ring count : ℕ) → List Pointer → List Pointer

@@ -5,7 +5,7 @@ use Prim.Native.Nat.{ℕ, _≤_}
 use Rattle.model.specs.Words as Words
 use Rattle.model.specs.Registers as Registers
 use Rattle.model.specs.Questions.{call-questions, new-ring, then-ask}
-use Rattle.addressing.specs.Translation.{descriptor-at, use-at}
+use Rattle.segments.specs.Translation.{descriptor-at, use-at}
 use Rattle.control.specs.declared.Checked.{Checked}
 use Rattle.control.specs.declared.Checked.the-variants as Checked
 

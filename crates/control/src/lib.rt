@@ -8,13 +8,13 @@ ghost use Rattle.model.specs.Registers as Registers;
 ghost use Rattle.model.specs.Step as Step;
 ghost use Rattle.words.specs.View.{as-pointer, Pointer-within};
 ghost use Rattle.opcodes.specs.Table.{taken};
-ghost use Rattle.addressing.specs.View.{as-dbr, as-registers, as-pointers, Ready, does, does-with-any-prs};
+ghost use Rattle.segments.specs.View.{as-dbr, as-registers, as-pointers, Ready, does, does-with-any-prs};
 ghost use Rattle.control.specs.Call.{checked};
-use addressing::state::After;
-use addressing::state::Core;
-use addressing::state::End;
-use addressing::translate::Dbr;
-use addressing::translate::Translated;
+use segments::state::After;
+use segments::state::Core;
+use segments::state::End;
+use segments::translate::Dbr;
+use segments::translate::Translated;
 use words::pointer::Pointer;
 use words::pointer::SegmentNumber;
 use words::pointer::WordNumber;
@@ -26,12 +26,12 @@ pub fn transfer(core: Core, memory: &[u64], w: u64, t: Pointer) -> After
 {
     if !opcodes::table::is_taken(words::instruction::opcode(w), core.a) {
         return After {
-            core: addressing::state::advanced(core),
+            core: segments::state::advanced(core),
             end: End::Completed,
         };
     }
     let dbr = core.dbr;
-    match addressing::translate::translate(dbr, memory, t) {
+    match segments::translate::translate(dbr, memory, t) {
         Translated::Refused(n) => After {
             core,
             end: End::Faulted(n, t),
@@ -43,14 +43,14 @@ pub fn transfer(core: Core, memory: &[u64], w: u64, t: Pointer) -> After
                     end: End::Faulted(24, t),
                 };
             }
-            if !addressing::segment::is_executable(d, t) {
+            if !segments::segment::is_executable(d, t) {
                 return After {
                     core,
                     end: End::Faulted(25, t),
                 };
             }
             After {
-                core: addressing::state::with_ipr(core, t),
+                core: segments::state::with_ipr(core, t),
                 end: End::Completed,
             }
         }
@@ -74,7 +74,7 @@ pub fn check_call(dbr: Dbr, memory: &[u64], ipr: Pointer, t: Pointer) -> Checked
     requires { ⌜ dbr .address + dbr .length ≤ length (now memory) ⌝ }
     ensures { λ x. ⌜ checked (as-dbr dbr) (now (memory .entry)) (as-pointer ipr) (as-pointer t) x ⌝ }
 {
-    match addressing::translate::translate(dbr, memory, t) {
+    match segments::translate::translate(dbr, memory, t) {
         Translated::Refused(n) => Checked::Refused(n),
         Translated::Passed(d) => {
             if !d.execute {
@@ -121,11 +121,11 @@ pub fn call(core: Core, prs: &mut [u64; 8], memory: &[u64], t: Pointer) -> After
             end: End::Faulted(n, t),
         },
         Checked::Ring(ring) => {
-            addressing::state::set_pr(prs, 7, stack_base(ring));
+            segments::state::set_pr(prs, 7, stack_base(ring));
             let mut p = t;
             p.ring = ring;
             After {
-                core: addressing::state::with_ipr(core, p),
+                core: segments::state::with_ipr(core, p),
                 end: End::Completed,
             }
         }
@@ -148,9 +148,9 @@ pub fn raise_rings(prs: &mut [u64; 8], ring: u64)
     let count = pr_count(prs);
     let mut k: usize = 0;
     while k < count {
-        let mut p = addressing::state::pr(prs, k);
-        p.ring = addressing::address::larger(ring, p.ring);
-        addressing::state::set_pr(prs, k, p);
+        let mut p = segments::state::pr(prs, k);
+        p.ring = segments::state::larger(ring, p.ring);
+        segments::state::set_pr(prs, k, p);
         k += 1;
     }
 }
@@ -160,13 +160,13 @@ pub fn return_to(core: Core, prs: &mut [u64; 8], memory: &[u64], t: Pointer) -> 
     ensures { λ x. ⌜ does core (now (prs .entry)) (now (memory .entry)) (Step.return (as-registers core (now (prs .entry))) (as-pointer t)) x (now (prs .exit)) (now (memory .entry)) ⌝ }
 {
     let dbr = core.dbr;
-    match addressing::translate::translate(dbr, memory, t) {
+    match segments::translate::translate(dbr, memory, t) {
         Translated::Refused(n) => After {
             core,
             end: End::Faulted(n, t),
         },
         Translated::Passed(d) => {
-            if !addressing::segment::is_executable(d, t) {
+            if !segments::segment::is_executable(d, t) {
                 return After {
                     core,
                     end: End::Faulted(25, t),
@@ -174,7 +174,7 @@ pub fn return_to(core: Core, prs: &mut [u64; 8], memory: &[u64], t: Pointer) -> 
             }
             raise_rings(prs, t.ring);
             After {
-                core: addressing::state::with_ipr(core, t),
+                core: segments::state::with_ipr(core, t),
                 end: End::Completed,
             }
         }

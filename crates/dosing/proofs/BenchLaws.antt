@@ -20,7 +20,7 @@ use Rattle.model.specs.Image.{image, refused-image, loaded, checked}
 use Rattle.model.specs.Listing.{listing}
 use Rattle.model.specs.Bench as Bench
 use Rattle.model.specs.Bench.{negated, bench-refused, bench-listed, bench-on, bench}
-use Rattle.addressing.specs.View.{as-machine}
+use Rattle.segments.specs.View.{as-machine}
 use Rattle.host.specs.declared.prepare.Prepared.{Prepared}
 use Rattle.host.specs.Record.{registers-of, Prepared-as}
 use Rattle.host.proofs.PrepareLaws.{prepared-passes}

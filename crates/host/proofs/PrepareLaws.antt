@@ -8,7 +8,7 @@ use Rattle.model.specs.Registers.{Dbr, Registers, Machine}
 use Rattle.model.specs.Questions.{all, pointer-in-range, registers-in-range, start-questions}
 use Rattle.model.proofs.BranchLaws.{and-left, and-right}
 use Rattle.model.proofs.QuestionLaws.{ask-yes}
-use Rattle.addressing.specs.View.{as-machine}
+use Rattle.segments.specs.View.{as-machine}
 use Rattle.host.specs.declared.prepare.Prepared.{Prepared}
 use Rattle.host.specs.Record.{Prepared-as}
 

@@ -8,8 +8,8 @@ use Rattle.model.specs.Questions.{start-questions}
 use Rattle.host.specs.declared.record.Pointer.{Pointer}
 use Rattle.host.specs.declared.record.Registers as Record
 use Rattle.host.specs.declared.prepare.Prepared.{Prepared}
-use Rattle.addressing.specs.declared.state.Core.{Core}
-use Rattle.addressing.specs.View.{registers-with, as-machine}
+use Rattle.segments.specs.declared.state.Core.{Core}
+use Rattle.segments.specs.View.{registers-with, as-machine}
 
 abbrev pub pointer-of : Pointer → Words.Pointer
 pointer-of p = record { ring = p .ring; segment = p .segment; word = p .word }

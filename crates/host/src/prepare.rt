@@ -1,7 +1,7 @@
 // A register record made ready to run: 1 to 4 asked, and the core's form of it.
 ghost use Rattle.host.specs.Record.{machine-of, Prepared-as};
 use crate::record::Registers;
-use addressing::state::Core;
+use segments::state::Core;
 
 // The number of the first no of 1 to 4, or 0; with 0 the core and its PRs are the record's.
 pub struct Prepared {

@@ -5,10 +5,10 @@ ghost use mathlib.Core.List.{map};
 ghost use Rattle.model.specs.Words as Model;
 ghost use Rattle.model.specs.Questions as Questions;
 ghost use Rattle.words.specs.View as Words;
-ghost use Rattle.addressing.specs.View.{as-registers, as-pointers};
+ghost use Rattle.segments.specs.View.{as-registers, as-pointers};
 ghost use Rattle.host.specs.Record.{pointer-of, registers-of, In-record, Converted};
-use addressing::state::Core;
-use addressing::translate::Dbr;
+use segments::state::Core;
+use segments::translate::Dbr;
 use words::pointer::SegmentNumber;
 use words::pointer::WordNumber;
 

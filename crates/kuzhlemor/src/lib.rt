@@ -2,12 +2,12 @@
 ghost use mathlib.Core.Path.{_≡_};
 ghost use Rattle.model.specs.Answers as Answers;
 ghost use Rattle.model.specs.Registers as Model;
-ghost use Rattle.processor.specs.Run.{as-reply, Reply-within};
+ghost use Rattle.run.specs.Run.{as-reply, Reply-within};
 ghost use Rattle.model.specs.Bench as Bench;
 ghost use Rattle.kuzhlemor.specs.Entry.{as-numbers, Run-says, Step-says};
 use host::record::Pointer;
 use host::record::Registers;
-use processor::run::Reply;
+use run::Reply;
 
 // An answer as numbers. Kinds: 0 refused, 1 spent or completed, 2 halted, 3 fault; what a kind leaves free is 0.
 #[repr(C)]

@@ -6,8 +6,8 @@ use native.Mathlib.Numerals.{add-one}
 use native.Mathlib.Omega.{arith}
 use lib.ListN.{length, take, getD, set}
 use lib.Seq.{take-all, take-suc, length-take-le}
-use Rattle.lines.specs.Text.{placed}
-use Rattle.lines.proofs.TextLaws.{placed-none, placed-byte, put-after, length-placed}
+use Rattle.text.specs.Text.{placed}
+use Rattle.text.proofs.TextLaws.{placed-none, placed-byte, put-after, length-placed}
 
 module _ (a i : ℕ) (bs t u : List ℕ) where
   pub no-byte-put : t ≡ placed a (take 0 bs) t

@@ -9,11 +9,11 @@ use Rattle.model.specs.Run as Run
 use Rattle.model.specs.Listing.{ascii, line, step-line, last-line}
 use Rattle.words.specs.View.{Pointer-within}
 use Rattle.words.specs.declared.pointer.Pointer.{Pointer}
-use Rattle.processor.specs.Run.{as-reply, Reply-within}
-use Rattle.processor.specs.declared.run.Reply.{Reply}
-use Rattle.processor.specs.declared.run.Reply.the-variants.{Fault}
-use Rattle.lines.specs.Text.{placed}
-use Rattle.lines.proofs.TextLaws.{length-placed, next-after, put-after}
+use Rattle.run.specs.Run.{as-reply, Reply-within}
+use Rattle.run.specs.declared.Reply.{Reply}
+use Rattle.run.specs.declared.Reply.the-variants.{Fault}
+use Rattle.text.specs.Text.{placed}
+use Rattle.text.proofs.TextLaws.{length-placed, next-after, put-after}
 use Rattle.lines.proofs.LineLaws.{ended, next-after-step-line, step-line-put-in}
 
 -- a name and a number

@@ -6,7 +6,7 @@ use lib.ListN.{length, length-append}
 use Rattle.model.specs.Words.{Pointer}
 use Rattle.model.specs.Run.{Reply, refused, spent, halted, fault}
 use Rattle.model.specs.Listing.{ascii, decimal, line, step-line, last-line}
-use Rattle.lines.proofs.DecimalLaws.{length-decimal-most}
+use Rattle.text.proofs.DecimalLaws.{length-decimal-most}
 use Rattle.lines.proofs.LineLaws.{ended}
 
 -- what the code's types and `Pointer-within` say of a pointer, and of a reply's numbers

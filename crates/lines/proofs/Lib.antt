@@ -1,7 +1,4 @@
 -- Laws of this crate. Assumes nothing.
-pub mod TextLaws
-pub mod DecimalLaws
-pub mod DigitLaws
 pub mod BytesLaws
 pub mod LineLaws
 pub mod LastLineLaws

@@ -5,9 +5,9 @@ use Prim.Native.Nat.{ℕ, _+_, _≤_, _<_}
 use native.Mathlib.Omega.{arith}
 use lib.ListN.{length, set, length-append, length-set}
 use Rattle.model.specs.Listing.{ascii, decimal, line, step-line}
-use Rattle.lines.specs.Text.{placed}
-use Rattle.lines.proofs.TextLaws.{placed-byte, length-placed, next-after, put-after}
-use Rattle.lines.proofs.DecimalLaws.{decimal-digit}
+use Rattle.text.specs.Text.{placed}
+use Rattle.text.proofs.TextLaws.{placed-byte, length-placed, next-after, put-after}
+use Rattle.text.proofs.DecimalLaws.{decimal-digit}
 
 -- a number and the byte that ends it
 abbrev pub ended : (v y : ℕ) → List ℕ

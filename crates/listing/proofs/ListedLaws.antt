@@ -12,11 +12,12 @@ use Rattle.model.specs.Run as Run
 use Rattle.model.specs.Run.{spent}
 use Rattle.model.specs.Listing.{step-lines, last-line, listing}
 use Rattle.model.proofs.RunLaws.{run-goes, trace-goes}
-use Rattle.listing.specs.declared.Line.{Line}
+use Rattle.chunks.specs.declared.Line.{Line}
 use Rattle.listing.specs.declared.Listed.{Listed}
-use Rattle.lines.specs.Text.{placed}
-use Rattle.listing.specs.Lines.{text-from, Chunk-listed, Lines-written}
-use Rattle.listing.proofs.ChunkLaws.{text-spent, put-take, put-drop, put-length}
+use Rattle.text.specs.Text.{placed}
+use Rattle.chunks.specs.Chunk.{text-from, Chunk-listed}
+use Rattle.listing.specs.Lines.{Lines-written}
+use Rattle.chunks.proofs.ChunkLaws.{text-spent, put-take, put-drop, put-length}
 
 pub first-lines : (z t : List ℕ) → take 0 t ++ z ≡ z
 first-lines z t = refl

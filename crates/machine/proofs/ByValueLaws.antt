@@ -11,11 +11,11 @@ use Rattle.model.specs.Run.{ran, run-from, run}
 use Rattle.model.proofs.BranchLaws.{and-left, and-right}
 use Rattle.model.proofs.QuestionLaws.{ask-yes}
 use Rattle.model.proofs.RunLaws.{run-refused, run-goes}
-use Rattle.addressing.specs.View.{as-machine}
+use Rattle.segments.specs.View.{as-machine}
 use Rattle.host.specs.declared.prepare.Prepared.{Prepared}
 use Rattle.host.specs.Record.{Prepared-as}
 use Rattle.host.proofs.PrepareLaws.{prepared-passes}
-use Rattle.processor.proofs.RunLaws.{passing-ring, passing-segment}
+use Rattle.run.proofs.RunLaws.{passing-ring, passing-segment}
 
 -- x is the record in the core's form, and q and v are its registers and memory
 module _ (b : ℕ) (q : Registers) (v : List ℕ) (x : Prepared) (p : Prepared-as (record { registers = q; memory = v }) x) where

@@ -3,7 +3,7 @@ use mathlib.Core.Path.{_≡_}
 use mathlib.Core.List.{List}
 use Prim.Native.Nat.{ℕ}
 use Rattle.model.specs.Run as Run
-use Rattle.processor.specs.Run.{as-reply, Reply-within}
+use Rattle.run.specs.Run.{as-reply, Reply-within}
 use Rattle.host.specs.Record.{registers-of}
 use Rattle.machine.specs.declared.Ran.{Ran}
 

@@ -3,7 +3,7 @@ ghost use Rattle.model.specs.Run as Run;
 ghost use Rattle.host.specs.Record.{machine-of};
 ghost use Rattle.machine.specs.ByValue.{Ran-by-value};
 use host::record::Registers;
-use processor::run::Reply;
+use run::Reply;
 
 // A run's reply with the registers after it.
 pub struct Ran {
@@ -24,7 +24,7 @@ pub fn run(registers: Registers, memory: &mut [u64], budget: u32) -> Ran
     }
     let start = x.prs;
     let mut none: [u64; 0] = [];
-    let y = processor::run::run(x.core, start, memory, budget, &mut none);
+    let y = run::run(x.core, start, memory, budget, &mut none);
     let core = y.core;
     let prs = y.prs;
     let reply = y.reply;

@@ -16,10 +16,10 @@ use Rattle.model.specs.Step as Step
 use Rattle.words.specs.View.{as-descriptor}
 use Rattle.opcodes.specs.Table.{result}
 use Rattle.words.specs.declared.descriptor.Descriptor.{Descriptor}
-use Rattle.addressing.specs.Translation.{translated}
-use Rattle.addressing.specs.declared.translate.Translated.{Translated}
-use Rattle.addressing.specs.declared.translate.Translated.the-variants.{Refused, Passed}
-use Rattle.addressing.proofs.UseLaws.{refused-faults, no-faults, yes-goes-on, address-passed, word-passed, bounds}
+use Rattle.segments.specs.Translation.{translated}
+use Rattle.segments.specs.declared.translate.Translated.{Translated}
+use Rattle.segments.specs.declared.translate.Translated.the-variants.{Refused, Passed}
+use Rattle.segments.proofs.UseLaws.{refused-faults, no-faults, yes-goes-on, address-passed, word-passed, bounds}
 
 -- 22 and 23
 module _ (t : Pointer) (d : Descriptor) (b : Bool) where

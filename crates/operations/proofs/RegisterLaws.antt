@@ -5,7 +5,7 @@ use Prim.Native.Nat.{ℕ}
 use lib.ListN.{getD, set, List·getD-map}
 use Rattle.model.specs.Words.{field, Pointer, pointer-in, pointer-word}
 use Rattle.model.specs.Registers.{Registers, with-a, with-prs, with-pr, advanced}
-use Rattle.addressing.specs.View.{pr-of}
+use Rattle.segments.specs.View.{pr-of}
 
 pub literal-finishes : (r p q : Registers) (v u : ℕ) → q ≡ advanced p → p ≡ with-a v r → v ≡ u → q ≡ advanced (with-a u r)
 literal-finishes r p q v u e f g = e ∙ ap advanced (f ∙ ap (λ z. with-a z r) g)

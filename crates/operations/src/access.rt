@@ -5,12 +5,12 @@ ghost use Rattle.model.specs.Opcodes.{sum};
 ghost use Rattle.model.specs.Step as Step;
 ghost use Rattle.words.specs.View.{as-pointer};
 ghost use Rattle.opcodes.specs.Table.{result};
-ghost use Rattle.addressing.specs.View.{Ready, does-with-any-prs};
-use addressing::state::After;
-use addressing::state::Core;
-use addressing::state::End;
-use addressing::translate::Dbr;
-use addressing::translate::Translated;
+ghost use Rattle.segments.specs.View.{Ready, does-with-any-prs};
+use segments::state::After;
+use segments::state::Core;
+use segments::state::End;
+use segments::translate::Dbr;
+use segments::translate::Translated;
 use words::pointer::Pointer;
 
 // LDA, ADA, SBA, ANA, ORA, XRA, CNT.
@@ -19,22 +19,22 @@ pub fn load(core: Core, memory: &[u64], w: u64, t: Pointer) -> After
     ensures { λ x. ⌜ does-with-any-prs core (now (memory .entry)) (λ r. Step.load (result (instruction-in w .opcode)) r (as-pointer t)) x (now (memory .entry)) ⌝ }
 {
     let dbr = core.dbr;
-    match addressing::translate::translate(dbr, memory, t) {
+    match segments::translate::translate(dbr, memory, t) {
         Translated::Refused(n) => After {
             core,
             end: End::Faulted(n, t),
         },
         Translated::Passed(d) => {
-            if !addressing::segment::is_readable(d, t) {
+            if !segments::segment::is_readable(d, t) {
                 return After {
                     core,
                     end: End::Faulted(22, t),
                 };
             }
-            let v = addressing::segment::read(memory, d, t.word);
+            let v = segments::segment::read(memory, d, t.word);
             let a = opcodes::table::result_of(words::instruction::opcode(w), core.a, v);
             After {
-                core: addressing::state::advanced(addressing::state::with_a(core, a)),
+                core: segments::state::advanced(segments::state::with_a(core, a)),
                 end: End::Completed,
             }
         }
@@ -47,21 +47,21 @@ pub fn store(core: Core, memory: &mut [u64], t: Pointer, value: u64) -> After
     ensures { λ x. ⌜ does-with-any-prs core (now (memory .entry)) (λ r. Step.store value r (as-pointer t)) x (now (memory .exit)) ⌝ }
 {
     let dbr = core.dbr;
-    match addressing::translate::translate(dbr, memory, t) {
+    match segments::translate::translate(dbr, memory, t) {
         Translated::Refused(n) => After {
             core,
             end: End::Faulted(n, t),
         },
         Translated::Passed(d) => {
-            if !addressing::segment::is_writable(d, t) {
+            if !segments::segment::is_writable(d, t) {
                 return After {
                     core,
                     end: End::Faulted(23, t),
                 };
             }
-            addressing::segment::write(memory, d, t.word, value);
+            segments::segment::write(memory, d, t.word, value);
             After {
-                core: addressing::state::advanced(core),
+                core: segments::state::advanced(core),
                 end: End::Completed,
             }
         }
@@ -74,28 +74,28 @@ pub fn update(core: Core, memory: &mut [u64], t: Pointer) -> After
     ensures { λ x. ⌜ does-with-any-prs core (now (memory .entry)) (λ r. Step.update (λ w. sum w 1) r (as-pointer t)) x (now (memory .exit)) ⌝ }
 {
     let dbr = core.dbr;
-    match addressing::translate::translate(dbr, memory, t) {
+    match segments::translate::translate(dbr, memory, t) {
         Translated::Refused(n) => After {
             core,
             end: End::Faulted(n, t),
         },
         Translated::Passed(d) => {
-            if !addressing::segment::is_readable(d, t) {
+            if !segments::segment::is_readable(d, t) {
                 return After {
                     core,
                     end: End::Faulted(22, t),
                 };
             }
-            if !addressing::segment::is_writable(d, t) {
+            if !segments::segment::is_writable(d, t) {
                 return After {
                     core,
                     end: End::Faulted(23, t),
                 };
             }
-            let v = addressing::segment::read(memory, d, t.word);
-            addressing::segment::write(memory, d, t.word, opcodes::arithmetic::add(v, 1));
+            let v = segments::segment::read(memory, d, t.word);
+            segments::segment::write(memory, d, t.word, opcodes::arithmetic::add(v, 1));
             After {
-                core: addressing::state::advanced(core),
+                core: segments::state::advanced(core),
                 end: End::Completed,
             }
         }
@@ -108,19 +108,19 @@ pub fn load_dbr(core: Core, memory: &[u64], t: Pointer) -> After
     ensures { λ x. ⌜ does-with-any-prs core (now (memory .entry)) (λ r. Step.load-dbr (length (now (memory .entry))) r (as-pointer t)) x (now (memory .entry)) ⌝ }
 {
     let dbr = core.dbr;
-    match addressing::translate::translate(dbr, memory, t) {
+    match segments::translate::translate(dbr, memory, t) {
         Translated::Refused(n) => After {
             core,
             end: End::Faulted(n, t),
         },
         Translated::Passed(d) => {
-            if !addressing::segment::is_readable(d, t) {
+            if !segments::segment::is_readable(d, t) {
                 return After {
                     core,
                     end: End::Faulted(22, t),
                 };
             }
-            let v = addressing::segment::read(memory, d, t.word);
+            let v = segments::segment::read(memory, d, t.word);
             let address = v % 16777216;
             let length = (v >> 24) % 8192;
             if 4096 < length {
@@ -136,7 +136,7 @@ pub fn load_dbr(core: Core, memory: &[u64], t: Pointer) -> After
                 };
             }
             After {
-                core: addressing::state::advanced(addressing::state::with_dbr(
+                core: segments::state::advanced(segments::state::with_dbr(
                     core,
                     Dbr { address, length },
                 )),

@@ -19,11 +19,11 @@ use Rattle.opcodes.specs.Table.{entry-of, Told}
 use Rattle.words.specs.declared.descriptor.Descriptor.{Descriptor}
 use Rattle.opcodes.specs.declared.table.Kind.{Kind}
 use Rattle.opcodes.specs.declared.table.Kind.the-variants.{Unknown, Read, Write, Update, Literal, Address, Pointer, Transfer, Call, Return, Dbr, Halt}
-use Rattle.addressing.specs.declared.translate.Translated.{Translated}
-use Rattle.addressing.specs.declared.translate.Translated.the-variants.{Refused, Passed}
-use Rattle.addressing.specs.Translation.{translated}
+use Rattle.segments.specs.declared.translate.Translated.{Translated}
+use Rattle.segments.specs.declared.translate.Translated.the-variants.{Refused, Passed}
+use Rattle.segments.specs.Translation.{translated}
 use Rattle.processor.specs.Step.{opcode-answer, obeyed, entry-in}
-use Rattle.addressing.proofs.UseLaws.{refused-faults, answer-passed, word-passed}
+use Rattle.segments.proofs.UseLaws.{refused-faults, answer-passed, word-passed}
 
 -- 33, where an opcode is privileged
 pub in-ring-0 : (n : ℕ) → n ≡ 0 → 0 ≡ ask (eqb n 0) 33 0

@@ -1,5 +1,3 @@
 -- Laws of this crate. Assumes nothing.
 pub mod FetchLaws
 pub mod StepLaws
-pub mod RunLaws
-pub mod TraceLaws

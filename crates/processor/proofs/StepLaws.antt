@@ -15,15 +15,15 @@ use Rattle.opcodes.specs.Table.{operand, result, taken, entry-of}
 use Rattle.words.specs.declared.pointer.Pointer as Code
 use Rattle.opcodes.specs.declared.table.Kind.{Kind}
 use Rattle.opcodes.specs.declared.table.Kind.the-variants.{Unknown, Read, Write, Update, Literal, Address, Pointer, Transfer, Call, Return, Dbr, Halt}
-use Rattle.addressing.specs.declared.address.Address as Formed
-use Rattle.addressing.specs.declared.address.Address.the-variants.{Bad, Good}
-use Rattle.addressing.specs.declared.state.End.{End}
-use Rattle.addressing.specs.declared.state.End.the-variants.{Completed}
-use Rattle.processor.specs.declared.step.Fetched.{Fetched}
-use Rattle.processor.specs.declared.step.Fetched.the-variants.{Refused, Word}
+use Rattle.addressing.specs.declared.Address as Formed
+use Rattle.addressing.specs.declared.Address.the-variants.{Bad, Good}
+use Rattle.segments.specs.declared.state.End.{End}
+use Rattle.segments.specs.declared.state.End.the-variants.{Completed}
+use Rattle.processor.specs.declared.Fetched.{Fetched}
+use Rattle.processor.specs.declared.Fetched.the-variants.{Refused, Word}
 use Rattle.addressing.specs.Address.{operand-program, operand-formed}
 use Rattle.processor.specs.Step.{performed, obeyed, entry-in, fetched}
-use Rattle.addressing.specs.View.{as-pointers, pr-of, ended}
+use Rattle.segments.specs.View.{as-pointers, pr-of, ended}
 
 -- PERFORM: an arm of the code is the access of the kind's entry
 module _ (m : Machine) (w : ℕ) (t : Words.Pointer) (k : Kind) where

@@ -15,10 +15,10 @@ use Rattle.model.specs.Program.{Program, fail, execute, faults}
 use Rattle.model.specs.Step.{with-operand, perform, step}
 use Rattle.opcodes.specs.Table.{known, privileged, entry-of}
 use Rattle.opcodes.specs.declared.table.Kind.{Kind}
-use Rattle.addressing.specs.View.{as-machine}
-use Rattle.addressing.specs.declared.state.Core.{Core}
-use Rattle.processor.specs.declared.step.Fetched.{Fetched}
-use Rattle.processor.specs.declared.step.Fetched.the-variants as Fetched
+use Rattle.segments.specs.View.{as-machine}
+use Rattle.segments.specs.declared.state.Core.{Core}
+use Rattle.processor.specs.declared.Fetched.{Fetched}
+use Rattle.processor.specs.declared.Fetched.the-variants as Fetched
 
 -- 32 AND 33 by an opcode's kind
 unfoldable pub opcode-answer : Kind → (ring : ℕ) → ℕ

@@ -1,6 +1,3 @@
 -- Laws of this crate. Assumes nothing.
-pub mod NumberLaws
-pub mod MarkLaws
-pub mod RegisterLaws
 pub mod RecordLaws
 pub mod PartLaws

@@ -10,12 +10,12 @@ use borrow.Author.Tests.{lt-leb}
 use Rattle.model.specs.Image as Image
 use Rattle.model.specs.Image.{mark-of, record-size, refused-image, marked-on, bytes-on, image-after}
 use Rattle.model.proofs.ImageLaws.{image-record-by-record, image-needs-rn}
-use Rattle.records.specs.declared.mark.Mark.{Mark}
-use Rattle.records.specs.declared.mark.Mark.the-variants.{Memory, Start, Word, Run, Unknown}
+use Rattle.fields.specs.declared.mark.Mark.{Mark}
+use Rattle.fields.specs.declared.mark.Mark.the-variants.{Memory, Start, Word, Run, Unknown}
 use Rattle.records.specs.declared.loading.Outcome.the-variants.{Refused}
-use Rattle.records.specs.Mark.{as-mark, size-of}
+use Rattle.fields.specs.Mark.{as-mark, size-of}
 use Rattle.records.specs.Record.{outcome-image, Goes}
-use Rattle.records.proofs.MarkLaws.{mark-of-front}
+use Rattle.fields.proofs.MarkLaws.{mark-of-front}
 
 pub part-is-short : (k : Mark) (bs : List ℕ) → length bs < size-of k → length bs < 61
 part-is-short Memory bs h = omega arith

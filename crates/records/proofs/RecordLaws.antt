@@ -19,7 +19,7 @@ use Rattle.records.specs.declared.loading.Loading.{Loading}
 use Rattle.records.specs.declared.loading.Outcome.the-variants.{Refused, Waits, Next, Ready}
 use Rattle.records.specs.View.{as-loading, Memory-within}
 use Rattle.records.specs.Record.{outcome-image, Goes}
-use Rattle.records.proofs.MarkLaws.{mark-of-record}
+use Rattle.fields.proofs.MarkLaws.{mark-of-record}
 
 -- A WHOLE RECORD is judged by its own bytes
 front-and-rest : (n : ℕ) (bs rest : List ℕ) → bs ++ rest ≡ take n bs ++ (drop n bs ++ rest)

@@ -1,4 +1,3 @@
 -- What the values of this crate stand for. Assumes nothing: these are definitions.
-pub mod Mark
 pub mod View
 pub mod Record

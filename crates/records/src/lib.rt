@@ -1,6 +1,3 @@
-// One record of an image: its mark, its numbers and what it changes, equal to its definition in `model`.
+// One record of an image and what it changes, equal to its definition in `model`.
 pub mod loading;
-pub mod mark;
-pub mod number;
 pub mod record;
-pub mod registers;

@@ -4,18 +4,18 @@ ghost use mathlib.Core.Option.{some};
 ghost use Prim.Native.Nat.{_≤_, _<_};
 ghost use lib.ListN.{length};
 ghost use Rattle.model.specs.Image as Image;
-ghost use Rattle.records.specs.Mark.{as-mark, size-of};
+ghost use Rattle.fields.specs.Mark.{as-mark, size-of};
 ghost use Rattle.records.specs.Record.{Recorded-as, Recorded-by-itself, Recorded-whatever-comes, Recorded-with-any-memory};
 ghost use Rattle.records.specs.View.{Loading-within};
 use crate::loading::Loading;
 use crate::loading::Outcome;
 use crate::loading::Recorded;
-use crate::mark::Mark;
-use crate::mark::mark_of;
-use crate::mark::size_of;
-use crate::number::number_4;
-use crate::number::number_8;
-use crate::registers::registers_at;
+use fields::mark::Mark;
+use fields::mark::mark_of;
+use fields::mark::size_of;
+use fields::number::number_4;
+use fields::number::number_8;
+use fields::registers::registers_at;
 
 // ME: 42 for a second one, 43, and so many words of memory, which are zeros already.
 pub fn load_memory(loading: Loading, bytes: &[u8]) -> Recorded

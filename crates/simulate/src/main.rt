@@ -3,17 +3,17 @@ ghost use mathlib.Core.Path.{_≡_};
 ghost use Prim.Native.Nat.{_≤_};
 ghost use lib.ListN.{length, replicate};
 ghost use Rattle.model.specs.Questions.{start-questions};
-ghost use Rattle.addressing.specs.View.{as-machine};
+ghost use Rattle.segments.specs.View.{as-machine};
 ghost use Rattle.simulate.specs.Read.{Ready-within};
-use addressing::state::Core;
+use chunks::Line;
 use host::record::Registers;
 use image::load::LoadOutcome;
 use image::load::Loaded;
 use libc::STDIN_FILENO;
 use libc::STDOUT_FILENO;
-use listing::Line;
 use listing::Listed;
-use processor::run::Reply;
+use run::Reply;
+use segments::state::Core;
 
 // What one read gave: the bytes that the buffer holds now, and whether it was the last.
 struct Piece {
@@ -74,7 +74,7 @@ fn read_image(memory: &mut [u64]) -> Loaded
 
 fn print_refusal(number: u8) {
     let mut text = [0u8; 64];
-    let size = lines::line::put_last_line(&mut text, 0, Reply::Refused(number));
+    let size = lines::put_last_line(&mut text, 0, Reply::Refused(number));
     io::write_all(STDOUT_FILENO, &text[..size]);
 }
 

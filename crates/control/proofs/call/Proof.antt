@@ -3,7 +3,7 @@ use borrow.Author.Needs.{needs}
 use Rattle.control.proofs.ControlLaws.{calls}
 use Rattle.control.proofs.call.Statement.{statement}
 use Rattle.control.proofs.call.Tie as tie
-use Rattle.addressing.specs.View.{as-pointers, ended}
+use Rattle.segments.specs.View.{as-pointers, ended}
 
 check-call-requires : tie.Need-check-call-requires
 check-call-requires c κs = search needs

@@ -5,7 +5,7 @@ use borrow.Author.Needs.{needs}
 use Rattle.control.proofs.RaiseLaws.{raised-first, raises}
 use Rattle.control.proofs.raise_rings.Statement.{statement}
 use Rattle.control.proofs.raise_rings.Tie as tie
-use Rattle.addressing.specs.View.{as-pointers}
+use Rattle.segments.specs.View.{as-pointers}
 
 abbrev Inv-loop : tie.InvT-loop
 Inv-loop prs₀ ring count k₀ prs k = (k ≤ count) × (as-pointers prs ≡ raised-first ring k (as-pointers prs₀))

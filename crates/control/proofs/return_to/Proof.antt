@@ -3,7 +3,7 @@ use borrow.Author.Needs.{needs}
 use Rattle.control.proofs.ControlLaws.{returning}
 use Rattle.control.proofs.return_to.Statement.{statement}
 use Rattle.control.proofs.return_to.Tie as tie
-use Rattle.addressing.specs.View.{as-pointers, ended}
+use Rattle.segments.specs.View.{as-pointers, ended}
 
 translate-requires : tie.Need-translate-requires
 translate-requires c κs = search needs

@@ -3,7 +3,7 @@ use borrow.Author.Needs.{needs}
 use Rattle.control.proofs.ControlLaws.{transfers}
 use Rattle.control.proofs.transfer.Statement.{statement}
 use Rattle.control.proofs.transfer.Tie as tie
-use Rattle.addressing.specs.View.{as-pointers, ended}
+use Rattle.segments.specs.View.{as-pointers, ended}
 
 opcode-requires : tie.Need-opcode-requires
 opcode-requires c κs = search needs

@@ -1,8 +1,8 @@
 -- `run_answer` meets its contract, case by case. Assumes nothing.
 use mathlib.Core.Path.{_≡_, _∙_, ap, sym, subst}
 use Rattle.model.specs.Answers.{numbers, reply-numbers}
-use Rattle.processor.specs.Run.{as-reply, Reply-within}
-use Rattle.processor.specs.declared.run.Reply.{Reply}
+use Rattle.run.specs.Run.{as-reply, Reply-within}
+use Rattle.run.specs.declared.Reply.{Reply}
 use borrow.Author.Needs.{needs}
 use Rattle.kuzhlemor.proofs.run_answer.Statement.{statement}
 use Rattle.kuzhlemor.proofs.run_answer.Tie as tie

@@ -6,8 +6,8 @@ use Prim.Native.Nat.{_-_, _*_, _≤_}
 use lib.ListN.{length, take, drop}
 use borrow.Author.Needs.{needs}
 use Rattle.model.specs.Questions.{start-questions}
-use Rattle.addressing.specs.View.{as-machine}
-use Rattle.listing.specs.Lines.{text-from}
+use Rattle.segments.specs.View.{as-machine}
+use Rattle.chunks.specs.Chunk.{text-from}
 use Rattle.listing.proofs.ListedLaws.{lines-of-a-run, next-far}
 use Rattle.listing.proofs.list.Statement.{statement}
 use Rattle.listing.proofs.list.Tie as tie

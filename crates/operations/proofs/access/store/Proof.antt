@@ -3,7 +3,7 @@ use borrow.Author.Needs.{needs}
 use Rattle.operations.proofs.AccessLaws.{stores}
 use Rattle.operations.proofs.access.store.Statement.{statement}
 use Rattle.operations.proofs.access.store.Tie as tie
-use Rattle.addressing.specs.View.{as-pointers, ended}
+use Rattle.segments.specs.View.{as-pointers, ended}
 
 translate-requires : tie.Need-translate-requires
 translate-requires c κs = search needs

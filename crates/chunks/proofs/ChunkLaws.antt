@@ -1,0 +1,337 @@
+-- The lines of a chunk of steps: what a run of some steps adds to a text, and what is still to come after it. Assumes nothing.
+use mathlib.Core.Path.{_≡_, refl, sym, _∙_, ap, ap₂, subst}
+use mathlib.Core.Bool.{Bool, true, false, false≢true, true≢false}
+use mathlib.Core.List.{List, [], _∷_, _++_, append-nil, append-assoc, map-append}
+use Prim.Native.Nat.{ℕ, suc, _+_, _*_, _^_, _≤_, _<_}
+use native.Mathlib.Numerals.{add-one}
+use native.Mathlib.Omega.{arith}
+use lib.ListN.{length, take, drop, getD, length-append, length-map}
+use lib.Seq.{take-at, drop-at, take-suc, length-take-le}
+use Rattle.model.specs.Words.{Pointer, pointer-in}
+use Rattle.model.specs.Registers.{Machine}
+use Rattle.model.specs.Program.{faults, completes, halts}
+use Rattle.model.specs.Step.{step}
+use Rattle.model.specs.Run as Run
+use Rattle.model.specs.Run.{ran, run-from, trace-from, spent, halted, fault, refused}
+use Rattle.model.specs.Listing.{step-line, step-lines, last-line}
+use Rattle.model.proofs.RunLaws.{along-run, run-faults, run-halts, run-completes, trace-faults, trace-halts, trace-completes}
+use Rattle.model.proofs.ListingLaws.{step-lines-append}
+use Rattle.words.specs.View.{as-pointer, Pointer-within, Decoded-pointer}
+use Rattle.words.specs.declared.pointer.Pointer as Code
+use Rattle.run.specs.declared.Ran.{Ran}
+use Rattle.run.specs.declared.Reply.{Reply}
+use Rattle.run.specs.declared.Reply.the-variants.{Refused, Spent, Halted, Fault}
+use Rattle.run.specs.Run.{as-reply, Reply-within, completed, Traced}
+use Rattle.segments.specs.View.{as-machine, as-pointers}
+use Rattle.chunks.specs.declared.Chunk.{Chunk}
+use Rattle.text.specs.Text.{placed}
+use Rattle.chunks.specs.Chunk.{text-from, ends-run, ending, Chunk-written, Chunk-listed}
+use Rattle.text.proofs.TextLaws.{placed-none, length-placed, next-after, put-after}
+
+-- WHAT IS STILL TO COME, by how the next step ends
+pub text-spent : (c : ℕ) (m : Machine) → text-from 0 c m ≡ last-line (spent c)
+unfolding text-from trace-from run-from step-lines ran
+text-spent c m = refl
+
+text-faults : (b c n : ℕ) (t : Pointer) (m : Machine) → step m ≡ faults n t → text-from (suc b) c m ≡ last-line (fault n c t)
+unfolding text-from step-lines ran
+text-faults b c n t m e = rw (trace-faults b n t m e, run-faults b c n t m e) refl
+
+text-halts : (b c : ℕ) (m k : Machine) → step m ≡ halts k → text-from (suc b) c m ≡ step-line (suc c) (k .registers .ipr) ++ last-line (halted (suc c))
+unfolding text-from step-lines ran
+text-halts b c m k e =
+    rw (trace-halts b m k e, run-halts b c m k e) (ap (λ t. t ++ last-line (halted (suc c))) (append-nil (step-line (suc c) (k .registers .ipr))))
+
+text-completes : (b c : ℕ) (m k : Machine) → step m ≡ completes k → text-from (suc b) c m ≡ step-line (suc c) (k .registers .ipr) ++ text-from b (suc c) k
+unfolding text-from step-lines
+text-completes b c m k e = rw (trace-completes b m k e, run-completes b c m k e) (append-assoc (step-line (suc c) (k .registers .ipr)) _ _)
+
+-- A RUN OF b STEPS, counted from d on: what comes after its steps' lines where c steps were complete before, how far it counts, and that it isn't refused
+after-chunk : (left c total : ℕ) → Run.Reply → Machine → List ℕ
+after-chunk left c e (refused n) k = []
+after-chunk left c e (spent n) k = text-from left (c + e) k
+after-chunk left c e (halted n) k = last-line (halted (c + n))
+after-chunk left c e (fault n d t) k = last-line (fault n (c + d) t)
+
+count-of : Run.Reply → ℕ
+count-of (refused n) = 0
+count-of (spent n) = n
+count-of (halted n) = n
+count-of (fault n d t) = d
+
+goes-ahead : Run.Reply → Bool
+goes-ahead (refused n) = false
+goes-ahead (spent n) = true
+goes-ahead (halted n) = true
+goes-ahead (fault n d t) = true
+
+record Chunk-run (b d : ℕ) (m : Machine) (x : Run.Ran) : Type 0 where
+  text : (c left : ℕ) → text-from (b + left) (c + d) m ≡ step-lines (c + d) (trace-from b m) ++ after-chunk left c (d + b) (x .reply) (x .machine)
+  count : count-of (x .reply) ≤ d + b
+  goes : goes-ahead (x .reply) ≡ true
+
+chunk-run : (b d : ℕ) (m : Machine) → Chunk-run b d m (run-from b d m)
+unfolding after-chunk count-of goes-ahead ran step-lines trace-from
+chunk-run =
+    along-run Chunk-run
+    (λ d m.
+    record {
+      text = λ c left. ap₂ (λ n e. text-from n e m) (let q : 0 + left ≡ left = omega arith in q) (let q : c + d ≡ c + (d + 0) = omega arith in q);
+      count = omega arith;
+      goes = refl;
+    })
+    (λ b d n t m e.
+    record {
+      text = λ c left.
+          ap (λ n. text-from n (c + d) m) (more b left) ∙ text-faults (b + left) (c + d) n t m e
+          ∙ ap (λ ps. step-lines (c + d) ps ++ last-line (fault n (c + d) t)) (sym (trace-faults b n t m e));
+      count = omega arith;
+      goes = refl;
+    })
+    (λ b d m k e.
+    record {
+      text = λ c left.
+          ap (λ n. text-from n (c + d) m) (more b left) ∙ text-halts (b + left) (c + d) m k e
+          ∙ ap₂ (λ l n. l ++ last-line (halted n)) (sym (append-nil (step-line (suc (c + d)) (k .registers .ipr)))) (let q : suc (c + d) ≡ c + suc d = omega arith in q)
+          ∙ ap (λ ps. step-lines (c + d) ps ++ last-line (halted (c + suc d))) (sym (trace-halts b m k e));
+      count = omega arith;
+      goes = refl;
+    })
+    (λ b d m k e h.
+    record {
+      text = λ c left.
+          ap (λ n. text-from n (c + d) m) (more b left) ∙ text-completes (b + left) (c + d) m k e
+          ∙ ap (λ n. step-line (suc (c + d)) (k .registers .ipr) ++ text-from (b + left) n k) (let q : suc (c + d) ≡ c + suc d = omega arith in q)
+          ∙ ap (λ l. step-line (suc (c + d)) (k .registers .ipr) ++ l) (h .text c left)
+          ∙ ap₂ (λ n z. step-line (suc (c + d)) (k .registers .ipr) ++ (step-lines n (trace-from b k) ++ after-chunk left c z (run-from b (suc d) k .reply) (run-from b (suc d) k .machine)))
+          (let q : c + suc d ≡ suc (c + d) = omega arith in q) (let q : suc d + b ≡ d + suc b = omega arith in q)
+          ∙ sym (append-assoc (step-line (suc (c + d)) (k .registers .ipr)) _ _)
+          ∙ ap (λ ps. step-lines (c + d) ps ++ after-chunk left c (d + suc b) (run-from b (suc d) k .reply) (run-from b (suc d) k .machine)) (sym (trace-completes b m k e));
+      count = let z = h .count in omega arith;
+      goes = h .goes;
+    })
+  where
+    more : (b left : ℕ) → suc b + left ≡ suc (b + left)
+    more b left = omega arith
+
+-- the same of the code's reply
+module _ (b : ℕ) (m k : Machine) (y : Reply) (e : run-from b 0 m ≡ ran (as-reply y) k) where
+  chunk-as : Chunk-run b 0 m (ran (as-reply y) k)
+  chunk-as = subst (Chunk-run b 0 m) e (chunk-run b 0 m)
+
+  chunk-text : (c left : ℕ) → text-from (b + left) c m ≡ step-lines c (trace-from b m) ++ after-chunk left c b (as-reply y) k
+  unfolding ran
+  chunk-text c left =
+      ap (λ n. text-from (b + left) n m) (let q : c ≡ c + 0 = omega arith in q) ∙ chunk-as .text c left
+      ∙ ap₂ (λ n z. step-lines n (trace-from b m) ++ after-chunk left c z (as-reply y) k) (let q : c + 0 ≡ c = omega arith in q) (let q : 0 + b ≡ b = omega arith in q)
+
+  by-reply : (x : Reply) → Chunk-run b 0 m (ran (as-reply x) k) → completed x ≤ b
+  unfolding ran count-of
+  by-reply (Refused n) h = let z = h .count in omega arith
+  by-reply (Spent n) h = let z = h .count in omega arith
+  by-reply (Halted n) h = let z = h .count in omega arith
+  by-reply (Fault n d t) h = let z = h .count in omega arith
+
+  pub completed-within : completed y ≤ b
+  completed-within = by-reply y chunk-as
+
+  module _ (c left : ℕ) where
+    text-goes-on : ends-run y ≡ false → step-lines c (trace-from b m) ++ text-from left (c + b) k ≡ text-from (b + left) c m
+    unfolding after-chunk
+    text-goes-on f = sym (chunk-text c left ∙ ap (λ l. step-lines c (trace-from b m) ++ l) (here y f))
+      where
+        here : (x : Reply) → ends-run x ≡ false → after-chunk left c b (as-reply x) k ≡ text-from left (c + b) k
+        here (Refused n) g = absurd (true≢false g)
+        here (Spent n) g = refl
+        here (Halted n) g = absurd (true≢false g)
+        here (Fault n d t) g = absurd (true≢false g)
+
+    text-ends : ends-run y ≡ true → step-lines c (trace-from b m) ++ ending c y ≡ text-from (b + left) c m
+    unfolding after-chunk goes-ahead ran
+    text-ends f = sym (chunk-text c left ∙ ap (λ l. step-lines c (trace-from b m) ++ l) (here y (chunk-as .goes) f))
+      where
+        here : (x : Reply) → goes-ahead (as-reply x) ≡ true → ends-run x ≡ true → after-chunk left c b (as-reply x) k ≡ ending c x
+        here (Refused n) q g = absurd (false≢true q)
+        here (Spent n) q g = absurd (false≢true g)
+        here (Halted n) q g = refl
+        here (Fault n d t) q g = refl
+
+-- BYTES PUT: what stands before the place after them, and what stays
+module _ (a r : ℕ) (w t u : List ℕ) (p : u ≡ placed a w t) (q : r ≡ a + length w) (h : r ≤ length t) where
+  front : length (take a t ++ w) ≡ r
+  front = omega (arith, length-append (take a t) w, length-take-le a t (omega arith))
+
+  whole : u ≡ take a t ++ w ++ drop r t
+  unfolding placed
+  whole = p ∙ ap (λ k. take a t ++ w ++ drop k t) (sym q)
+
+  pub put-take : take r u ≡ take a t ++ w
+  put-take = ap (take r) whole ∙ take-at (take a t ++ w) (drop r t) r front
+
+  pub put-drop : drop r u ≡ drop r t
+  put-drop = ap (drop r) whole ∙ drop-at (take a t ++ w) (drop r t) r front
+
+  pub put-length : length u ≡ length t
+  put-length = ap length p ∙ length-placed a w t (omega arith)
+
+-- THE STEPS' LINES, one after another from their trace
+lines-next : (c i : ℕ) (l : List ℕ) (p : Pointer) → i < length l → p ≡ pointer-in (getD l i 0) →
+    step-lines c (as-pointers (take i l)) ++ step-line (c + i + 1) p ≡ step-lines c (as-pointers (take (i + 1) l))
+unfolding step-lines
+lines-next c i l p h e =
+    let n : length (as-pointers (take i l)) ≡ i = length-map (take i l) pointer-in ∙ length-take-le i l (omega arith) in
+    sym
+    (ap (λ k. step-lines c (as-pointers (take k l))) (add-one i) ∙ ap (λ xs. step-lines c (as-pointers xs)) (take-suc l i 0 h)
+    ∙ ap (step-lines c) (map-append pointer-in (take i l) (getD l i 0 ∷ []))
+    ∙ step-lines-append c (as-pointers (take i l)) (pointer-in (getD l i 0) ∷ [])
+    ∙ ap (λ t. step-lines c (as-pointers (take i l)) ++ t) (append-nil (step-line (suc (c + length (as-pointers (take i l)))) (pointer-in (getD l i 0))))
+    ∙ ap₂ (λ k q. step-lines c (as-pointers (take i l)) ++ step-line k q) (omega arith) (sym e))
+
+module _ (a c : ℕ) (l t : List ℕ) where
+  pub no-line-put : t ≡ placed a (step-lines c (as-pointers (take 0 l))) t
+  unfolding step-lines
+  no-line-put = sym (placed-none a t)
+
+  pub no-line-long : a ≡ a + length (step-lines c (as-pointers (take 0 l)))
+  unfolding step-lines
+  no-line-long = omega arith
+
+  module _ (i r : ℕ) (q : r ≡ a + length (step-lines c (as-pointers (take i l)))) where
+    module _ (n : ℕ) (room : a + 64 * n ≤ length t) (h : i < n) (k : n ≤ length l) (p : Code.Pointer) (e : Decoded-pointer (getD l i 0) p) (s : ℕ)
+        (g : s ≡ r + length (step-line (c + i + 1) (as-pointer p))) where
+      pub line-long : s ≡ a + length (step-lines c (as-pointers (take (i + 1) l)))
+      line-long =
+          next-after a r s (step-lines c (as-pointers (take i l))) (step-line (c + i + 1) (as-pointer p)) q g
+          ∙ ap (λ z. a + length z) (lines-next c i l (as-pointer p) (omega arith) (e .same))
+
+      pub line-put : (u v : List ℕ) → u ≡ placed a (step-lines c (as-pointers (take i l))) t → v ≡ placed r (step-line (c + i + 1) (as-pointer p)) u →
+          r ≤ a + 64 * i → s ≤ r + 64 →
+          v ≡ placed a (step-lines c (as-pointers (take (i + 1) l))) t
+      line-put u v f o x y =
+          put-after a r s (step-lines c (as-pointers (take i l))) (step-line (c + i + 1) (as-pointer p)) t u v f q o g (omega arith)
+          ∙ ap (λ z. placed a z t) (lines-next c i l (as-pointer p) (omega arith) (e .same))
+
+    module _ (n : ℕ) (h : i ≤ n) (k : n ≤ i) where
+      pub every-line-long : r ≡ a + length (step-lines c (as-pointers (take n l)))
+      every-line-long = q ∙ ap (λ z. a + length (step-lines c (as-pointers (take z l)))) (let y : i ≡ n = omega arith in y)
+
+  pub every-line-put : (i n : ℕ) (u : List ℕ) → u ≡ placed a (step-lines c (as-pointers (take i l))) t → i ≤ n → n ≤ i →
+      u ≡ placed a (step-lines c (as-pointers (take n l))) t
+  every-line-put i n u f h k = f ∙ ap (λ z. placed a (step-lines c (as-pointers (take z l))) t) (let y : i ≡ n = omega arith in y)
+
+pub ruleset lines-of-steps = (no-line-put, no-line-long, line-long, line-put, every-line-long, every-line-put)
+
+-- A CHUNK'S STEPS: as many as the reply counts, and their trace is the definition's
+module _ (b : ℕ) (m k : Machine) (y : Reply) (e : run-from b 0 m ≡ ran (as-reply y) k) (n : ℕ) (f : n ≡ completed y) where
+  steps-within : n ≤ b
+  steps-within = let h = completed-within b m k y e in omega arith
+
+  pub steps-have-room : (a l : ℕ) → a + 64 * b ≤ l → a + 64 * n ≤ l
+  steps-have-room a l h = let g = steps-within in omega arith
+
+  pub steps-traced : (x : Ran) (l₀ l : List ℕ) → Traced b m x l₀ l → b ≤ length l₀ → n ≤ length l
+  steps-traced x l₀ l w h = let g = steps-within in let q = w .size-same in omega arith
+
+  pub steps-fit : (c : ℕ) → c + b < 2 ^ 32 → c + n < 2 ^ 32
+  steps-fit c h = let g = steps-within in omega arith
+
+  pub steps-near : (a r : ℕ) → r ≤ a + 64 * n → r ≤ a + 64 * b
+  steps-near a r h = let g = steps-within in omega arith
+
+module _ (b : ℕ) (m : Machine) (x : Ran) (l₀ l : List ℕ) (w : Traced b m x l₀ l) (h : b ≤ length l₀) (n : ℕ) (f : n ≡ completed (x .reply)) (a c : ℕ) where
+  same-lines : step-lines c (as-pointers (take n l)) ≡ step-lines c (trace-from b m)
+  same-lines = ap (step-lines c) (ap (λ i. as-pointers (take i l)) f ∙ w .traced h)
+
+  pub trace-put : (t u : List ℕ) → u ≡ placed a (step-lines c (as-pointers (take n l))) t → u ≡ placed a (step-lines c (trace-from b m)) t
+  trace-put t u p = p ∙ ap (λ z. placed a z t) same-lines
+
+  pub trace-long : (r : ℕ) → r ≡ a + length (step-lines c (as-pointers (take n l))) → r ≡ a + length (step-lines c (trace-from b m))
+  trace-long r p = p ∙ ap (λ z. a + length z) same-lines
+
+pub ruleset lines-of-a-chunk = (completed-within, steps-have-room, steps-traced, steps-fit, steps-near, trace-put, trace-long)
+
+-- THE ENDING, by the reply that is at hand
+module _ (y : Reply) (c : ℕ) where
+  pub halt-fits : (d : ℕ) → y ≡ Halted d → c + completed y < 2 ^ 32 → c + d < 2 ^ 32
+  halt-fits d f h = let q : completed y ≡ d = ap completed f in omega arith
+
+  pub fault-fits : (n d : ℕ) (t : Code.Pointer) → y ≡ Fault n d t → c + completed y < 2 ^ 32 → c + d < 2 ^ 32
+  fault-fits n d t f h = let q : completed y ≡ d = ap completed f in omega arith
+
+  -- a fault's pointer fits a line
+  pub fault-within : (n d : ℕ) (t : Code.Pointer) → Reply-within y → y ≡ Fault n d t → Pointer-within t
+  fault-within n d t w f = subst Reply-within f w
+
+  module _ (z : Reply) (f : y ≡ z) where
+    pub ending-known : (b : Bool) → b ≡ ends-run z → b ≡ ends-run y
+    ending-known b g = g ∙ ap ends-run (sym f)
+
+    pub ending-put : (a : ℕ) (t u : List ℕ) → u ≡ placed a (ending c z) t → u ≡ placed a (ending c y) t
+    ending-put a t u g = g ∙ ap (λ (x : Reply). placed a (ending c x) t) (sym f)
+
+    pub ending-long : (a r : ℕ) → r ≡ a + length (ending c z) → r ≡ a + length (ending c y)
+    ending-long a r g = g ∙ ap (λ (x : Reply). a + length (ending c x)) (sym f)
+
+  module _ (d : ℕ) (f : y ≡ Spent d) (a : ℕ) where
+    pub no-ending-put : (t : List ℕ) → t ≡ placed a (ending c y) t
+    no-ending-put t = sym (placed-none a t) ∙ ap (λ (x : Reply). placed a (ending c x) t) (sym f)
+
+    pub no-ending-long : a ≡ a + length (ending c y)
+    no-ending-long = let q : length (ending c y) ≡ 0 = ap (λ (x : Reply). length (ending c x)) f in omega arith
+
+pub ruleset endings = (halt-fits, fault-fits, fault-within, ending-known, ending-put, ending-long, no-ending-put, no-ending-long)
+
+-- THE CHUNK WHOLE
+module _ (m : Machine) (c b a : ℕ) (t : List ℕ) (x : Chunk) (memory u : List ℕ) (w : Chunk-written m c b a t x memory u)
+    (room : a + 64 * b + 64 ≤ length t) where
+  pub ending-has-room : x .length + 64 ≤ length u
+  ending-has-room = let g = w .put in let q : length u ≡ length t = put-length a (x .length) _ t u (g .0) (g .1) (omega arith) in omega arith
+
+  pub ending-fits : c + b < 2 ^ 32 → c + completed (x .ran .reply) < 2 ^ 32
+  ending-fits h = let g = w .counted in omega arith
+
+  module _ (last : Bool) (f : last ≡ ends-run (x .ran .reply)) (v : List ℕ) (p : v ≡ placed (x .length) (ending c (x .ran .reply)) u) (r : ℕ)
+      (q : r ≡ x .length + length (ending c (x .ran .reply))) (h : r ≤ x .length + 64) where
+    fits : r ≤ length t
+    fits = let g = w .put in omega arith
+
+    lines : List ℕ
+    lines = step-lines c (trace-from b m) ++ ending c (x .ran .reply)
+
+    put-lines : v ≡ placed a lines t
+    unfolding lines
+    put-lines = put-after a (x .length) r (step-lines c (trace-from b m)) (ending c (x .ran .reply)) t u v (w .put .0) (w .put .1) p q fits
+
+    long-lines : r ≡ a + length lines
+    unfolding lines
+    long-lines = next-after a (x .length) r (step-lines c (trace-from b m)) (ending c (x .ran .reply)) (w .put .1) q
+
+    no-ending : (y : Reply) → ends-run y ≡ false → ending c y ≡ []
+    no-ending (Refused n) g = absurd (true≢false g)
+    no-ending (Spent n) g = refl
+    no-ending (Halted n) g = absurd (true≢false g)
+    no-ending (Fault n d z) g = absurd (true≢false g)
+
+    pub chunk-listed : Chunk-listed m c b a t (record { core = x .ran .core; length = r; «is_last» = last }) (as-machine (x .ran .core) (x .ran .prs) memory) v
+    unfolding lines
+    chunk-listed =
+        record {
+          goes-on = λ g left.
+              ap (λ z. take a t ++ z) (sym (text-goes-on b m _ (x .ran .reply) (w .ran-same .same) c left (sym f ∙ g)))
+              ∙ sym (append-assoc (take a t) _ _)
+              ∙ ap (λ z. z ++ text-from left (c + b) (as-machine (x .ran .core) (x .ran .prs) memory))
+              (ap (λ z. take a t ++ z) (sym (append-nil (step-lines c (trace-from b m))) ∙ ap (λ z. step-lines c (trace-from b m) ++ z) (sym (no-ending (x .ran .reply) (sym f ∙ g))))
+              ∙ sym (put-take a r lines t v put-lines long-lines fits));
+          ends = λ g left.
+              ap (λ z. take a t ++ z) (sym (text-ends b m _ (x .ran .reply) (w .ran-same .same) c left (sym f ∙ g)))
+              ∙ sym (put-take a r lines t v put-lines long-lines fits);
+          rest-same = put-drop a r lines t v put-lines long-lines fits;
+          size-same = put-length a r lines t v put-lines long-lines fits;
+          fits = fits;
+          grows = omega (arith, long-lines);
+          near = let g = w .put in omega arith;
+          short = λ g. let k : length (ending c (x .ran .reply)) ≡ 0 = ap length (no-ending (x .ran .reply) (sym f ∙ g)) in let y = w .put in omega arith;
+          passes = w .ran-same .passes;
+        }
+
+pub ruleset chunks = (ending-has-room, ending-fits, chunk-listed)

@@ -1,0 +1,42 @@
+-- `put_chunk` meets its contract. Assumes nothing.
+use borrow.Author.Needs.{needs}
+use Rattle.chunks.proofs.ChunkLaws.{lines-of-a-chunk}
+use Rattle.chunks.proofs.put_chunk.Statement.{statement}
+use Rattle.chunks.proofs.put_chunk.Tie as tie
+
+slice-aggregate-run : tie.Need-slice-aggregate-run
+slice-aggregate-run c = search needs
+
+run-requires : tie.Need-run-requires
+run-requires c κs = search needs
+
+slice-aggregate-put-steps : tie.Need-slice-aggregate-put-steps
+slice-aggregate-put-steps c = search needs
+
+steps-of-requires : tie.Need-steps-of-requires
+steps-of-requires c κs = search needs
+
+put-steps-requires : tie.Need-put-steps-requires
+put-steps-requires c κs = search (needs, lines-of-a-chunk)
+
+same-length : tie.Need-same-length
+same-length c = search needs
+
+same-length-2 : tie.Need-same-length-2
+same-length-2 c = search needs
+
+returns : tie.Need-returns
+returns c = search (needs, lines-of-a-chunk)
+
+pub put-chunk-spec : {M : Type 1} → statement M
+put-chunk-spec =
+    tie.close
+    (tie.spec
+    slice-aggregate-run
+    run-requires
+    slice-aggregate-put-steps
+    steps-of-requires
+    put-steps-requires
+    same-length
+    same-length-2
+    returns)

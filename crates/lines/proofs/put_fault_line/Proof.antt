@@ -1,0 +1,52 @@
+-- `put_fault_line` meets its contract. Assumes nothing.
+use borrow.Author.Needs.{needs}
+use Rattle.model.specs.Listing.{ascii}
+use Rattle.lines.proofs.LastLineLaws.{next-after-fault-line, fault-line-put}
+use Rattle.lines.proofs.put_fault_line.Statement.{statement}
+use Rattle.lines.proofs.put_fault_line.Tie as tie
+
+slice-aggregate-put-named : tie.Need-slice-aggregate-put-named
+slice-aggregate-put-named c = search needs
+
+put-named-requires : tie.Need-put-named-requires
+put-named-requires c κs = search needs
+
+put-number-requires : tie.Need-put-number-requires
+put-number-requires c κs = search needs
+
+put-digit-requires : tie.Need-put-digit-requires
+put-digit-requires c κs = search needs
+
+cast-put-number : tie.Need-cast-put-number
+cast-put-number c = search needs
+
+put-number-requires-2 : tie.Need-put-number-requires-2
+put-number-requires-2 c κs = search needs
+
+cast-put-number-2 : tie.Need-cast-put-number-2
+cast-put-number-2 c = search needs
+
+put-number-requires-3 : tie.Need-put-number-requires-3
+put-number-requires-3 c κs = search needs
+
+same-length : tie.Need-same-length
+same-length c = search needs
+
+returns : tie.Need-returns
+unfolding ascii
+returns c = (search fault-line-put, search next-after-fault-line, search needs)
+
+pub put-fault-line-spec : {M : Type 1} → statement M
+put-fault-line-spec =
+    tie.close
+    (tie.spec
+    slice-aggregate-put-named
+    put-named-requires
+    put-number-requires
+    put-digit-requires
+    cast-put-number
+    put-number-requires-2
+    cast-put-number-2
+    put-number-requires-3
+    same-length
+    returns)

@@ -1,0 +1,5 @@
+-- Laws of this crate. Assumes nothing.
+pub mod TranslateLaws
+pub mod SegmentLaws
+pub mod StateLaws
+pub mod UseLaws

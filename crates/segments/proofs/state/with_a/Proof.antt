@@ -1,0 +1,12 @@
+-- `state::with_a` meets its contract. Assumes nothing.
+use mathlib.Core.Path.{refl}
+use Rattle.model.specs.Registers.{with-a}
+use Rattle.segments.proofs.state.with_a.Statement.{statement}
+use Rattle.segments.proofs.state.with_a.Tie as tie
+
+returns : tie.Need-returns
+unfolding with-a
+returns c = λ prs. refl
+
+pub with-a-spec : {M : Type 1} → statement M
+with-a-spec = tie.close (tie.spec returns)

@@ -1,0 +1,12 @@
+-- `state::with_dbr` meets its contract. Assumes nothing.
+use mathlib.Core.Path.{refl}
+use Rattle.model.specs.Registers.{with-dbr}
+use Rattle.segments.proofs.state.with_dbr.Statement.{statement}
+use Rattle.segments.proofs.state.with_dbr.Tie as tie
+
+returns : tie.Need-returns
+unfolding with-dbr
+returns c = λ prs. refl
+
+pub with-dbr-spec : {M : Type 1} → statement M
+with-dbr-spec = tie.close (tie.spec returns)

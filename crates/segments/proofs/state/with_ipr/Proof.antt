@@ -1,0 +1,12 @@
+-- `state::with_ipr` meets its contract. Assumes nothing.
+use mathlib.Core.Path.{refl}
+use Rattle.model.specs.Registers.{with-ipr}
+use Rattle.segments.proofs.state.with_ipr.Statement.{statement}
+use Rattle.segments.proofs.state.with_ipr.Tie as tie
+
+returns : tie.Need-returns
+unfolding with-ipr
+returns c = λ prs. refl
+
+pub with-ipr-spec : {M : Type 1} → statement M
+with-ipr-spec = tie.close (tie.spec returns)

@@ -1,0 +1,4 @@
+-- Laws of this crate. Assumes nothing.
+pub mod TextLaws
+pub mod DecimalLaws
+pub mod DigitLaws
