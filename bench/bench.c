@@ -24,21 +24,43 @@ typedef struct {
 } machine;
 
 typedef kuzhlemor_reply run_function(kuzhlemor_registers *, uint64_t *, size_t, uint32_t);
+typedef kuzhlemor_reply step_function(kuzhlemor_registers *, uint64_t *, size_t);
+typedef int64_t bench_function(const uint8_t *, size_t, uint8_t *, size_t);
 
 /* The second implementation, in Rust (bench/rust). */
 run_function rust_run;
-typedef int64_t bench_function(const uint8_t *, size_t, uint8_t *, size_t);
 bench_function rust_bench;
+
+static kuzhlemor_reply rust_step(kuzhlemor_registers *registers, uint64_t *memory, size_t words)
+{
+    return rust_run(registers, memory, words, 1);
+}
 
 enum {
     PLAIN, RUST, LIBRARY, CONTESTANTS
 };
 
 typedef struct {
+    run_function *run;
+    step_function *step;
+    bench_function *bench;
+} contestant;
+
+static const contestant contestants[CONTESTANTS] = {
+    [PLAIN] = {plain_run, plain_step, plain_bench},
+    [RUST] = {rust_run, rust_step, rust_bench},
+    [LIBRARY] = {kuzhlemor_run, kuzhlemor_step, kuzhlemor_bench},
+};
+
+typedef enum {
+    AS_RUN, BY_STEPS
+} manner;
+
+typedef struct {
     const char *name;
     machine (*make)(void);
     uint32_t steps;
-    run_function *runs[CONTESTANTS];
+    manner manner;
 } row;
 
 /* Segment 4 holds the program, in ring 4, segment 5 its data; PR1 to PR3 point to words 0, 16 and 32 of the data. */
@@ -140,8 +162,6 @@ static machine pointer_chains(void)
     return m;
 }
 
-typedef kuzhlemor_reply step_function(kuzhlemor_registers *, uint64_t *, size_t);
-
 /* A run by single steps. */
 static kuzhlemor_reply by_steps(step_function *step, kuzhlemor_registers *registers, uint64_t *memory, size_t words,
                                 uint32_t steps)
@@ -155,26 +175,6 @@ static kuzhlemor_reply by_steps(step_function *step, kuzhlemor_registers *regist
     return (kuzhlemor_reply){.kind = KUZHLEMOR_SPENT, .count = steps};
 }
 
-static kuzhlemor_reply plain_steps(kuzhlemor_registers *registers, uint64_t *memory, size_t words, uint32_t steps)
-{
-    return by_steps(plain_step, registers, memory, words, steps);
-}
-
-static kuzhlemor_reply rust_step(kuzhlemor_registers *registers, uint64_t *memory, size_t words)
-{
-    return rust_run(registers, memory, words, 1);
-}
-
-static kuzhlemor_reply rust_steps(kuzhlemor_registers *registers, uint64_t *memory, size_t words, uint32_t steps)
-{
-    return by_steps(rust_step, registers, memory, words, steps);
-}
-
-static kuzhlemor_reply library_steps(kuzhlemor_registers *registers, uint64_t *memory, size_t words, uint32_t steps)
-{
-    return by_steps(kuzhlemor_step, registers, memory, words, steps);
-}
-
 static double now(void)
 {
     struct timespec t;
@@ -184,7 +184,7 @@ static double now(void)
 }
 
 /* The time of a run from the start, and in `end` what it leaves. Every run has the same place in memory. */
-static double timed(run_function *run, const machine *from, uint32_t steps, machine *end, kuzhlemor_reply *reply)
+static double timed(const contestant *c, const row *r, const machine *from, machine *end, kuzhlemor_reply *reply)
 {
     static _Alignas(4096) machine m;
     double before;
@@ -192,7 +192,10 @@ static double timed(run_function *run, const machine *from, uint32_t steps, mach
 
     m = *from;
     before = now();
-    *reply = run(&m.registers, m.memory, WORDS, steps);
+    if (r->manner == BY_STEPS)
+        *reply = by_steps(c->step, &m.registers, m.memory, WORDS, r->steps);
+    else
+        *reply = c->run(&m.registers, m.memory, WORDS, r->steps);
     time = now() - before;
     *end = m;
     return time;
@@ -226,7 +229,7 @@ static void measure(const row *r)
         kuzhlemor_reply replies[CONTESTANTS];
 
         for (int k = 0; k < CONTESTANTS; k++)
-            keep_least(&best[k], timed(r->runs[k], &from, r->steps, &ends[k], &replies[k]));
+            keep_least(&best[k], timed(&contestants[k], r, &from, &ends[k], &replies[k]));
         for (int k = 0; k < CONTESTANTS; k++)
             if (replies[k].kind != KUZHLEMOR_SPENT || !same_reply(replies[k], replies[0]) ||
                 !same_registers(&ends[k].registers, &ends[0].registers) ||
@@ -251,7 +254,6 @@ static double timed_listing(bench_function *bench, const uint8_t *image, size_t 
 
 static void measure_listing(const char *name, machine (*make)(void))
 {
-    static bench_function *const benches[CONTESTANTS] = {plain_bench, rust_bench, kuzhlemor_bench};
     static uint8_t image[IMAGE_ROOM(WORDS)];
     static uint8_t texts[CONTESTANTS][TEXT];
     machine from = make();
@@ -262,7 +264,7 @@ static void measure_listing(const char *name, machine (*make)(void))
         int64_t answers[CONTESTANTS];
 
         for (int k = 0; k < CONTESTANTS; k++)
-            keep_least(&best[k], timed_listing(benches[k], image, length, texts[k], &answers[k]));
+            keep_least(&best[k], timed_listing(contestants[k].bench, image, length, texts[k], &answers[k]));
         for (int k = 0; k < CONTESTANTS; k++)
             if (answers[k] <= 0 || answers[k] != answers[0] || memcmp(texts[k], texts[0], TEXT) != 0)
                 differ(name);
@@ -273,11 +275,13 @@ static void measure_listing(const char *name, machine (*make)(void))
 int main(void)
 {
     static const row rows[] = {
-        {"arithmetic", arithmetic, 100000, {plain_run, rust_run, kuzhlemor_run}},
-        {"loads and stores", loads_and_stores, 100000, {plain_run, rust_run, kuzhlemor_run}},
-        {"calls and returns", calls_and_returns, 100000, {plain_run, rust_run, kuzhlemor_run}},
-        {"pointer chains", pointer_chains, 5000, {plain_run, rust_run, kuzhlemor_run}},
-        {"loads and stores, single steps", loads_and_stores, 100000, {plain_steps, rust_steps, library_steps}},
+        {"arithmetic", arithmetic, 100000, AS_RUN},
+        {"loads and stores", loads_and_stores, 100000, AS_RUN},
+        {"calls and returns", calls_and_returns, 100000, AS_RUN},
+        {"pointer chains", pointer_chains, 5000, AS_RUN},
+        {"arithmetic, single steps", arithmetic, 100000, BY_STEPS},
+        {"loads and stores, single steps", loads_and_stores, 100000, BY_STEPS},
+        {"calls and returns, single steps", calls_and_returns, 100000, BY_STEPS},
     };
 
     printf("%-32s %10s %10s %10s %12s %12s\n", "", "C", "Rust", "library", "library/C", "library/Rust");

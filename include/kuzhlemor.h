@@ -1,6 +1,6 @@
 /* The ring processor as a C library: one step, or a run under a budget, over a register record and a memory that the
- * caller lends; and a whole image run for its listing. Link with libkuzhlemor.a (x86-64, System V calling convention), which needs nothing but
- * memset.
+ * caller lends; and a whole image run for its listing. Link with libkuzhlemor.a (x86-64, System V calling convention),
+ * which needs nothing but memset.
  *
  * The caller tests nothing first. Any values in the record and in memory, broken ones too, any number of words and any
  * budget get a defined reply. What the caller owes is the usual of C:
@@ -9,7 +9,10 @@
  *   - record and memory don't overlap, and nobody else reads or writes them during the call.
  *
  * After a call, record and memory hold exactly what the completed steps wrote. A refused call and a faulting step leave
- * both as they were. Nothing is kept between calls. The bytes of padding in the records carry nothing. */
+ * both as they were. Nothing is kept between calls.
+ *
+ * The record is used in place: during the call it holds registers half-way through a run. The bytes of padding in the
+ * records carry nothing: whatever they hold, the fields end alike, and a call may overwrite them. */
 #ifndef KUZHLEMOR_H
 #define KUZHLEMOR_H
 
@@ -85,8 +88,8 @@ kuzhlemor_reply kuzhlemor_run(kuzhlemor_registers *registers, uint64_t *memory, 
  *   -45  text has 64 bytes for each line there may be: 64 * (budget + 1)
  * Bytes of text after the listing, and on refusal all of them, keep what they held. image and text aren't null, not even
  * when their lengths are 0, and don't overlap.
- * The call takes about 68 KiB of stack, most of it for the image's memory; kuzhlemor_step and kuzhlemor_run take a little
- * over 1 KiB. */
+ * The call takes about 67 KiB of stack, most of it for the image's memory; kuzhlemor_step and kuzhlemor_run take less
+ * than 512 bytes. */
 int64_t kuzhlemor_bench(const uint8_t *image, size_t image_length, uint8_t *text, size_t text_length);
 
 /* The layout that the library was built for. */

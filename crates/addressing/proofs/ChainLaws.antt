@@ -1,22 +1,21 @@
 -- The chain of pointer words, one law for each turn of the code; the model's chain goes where `through` does. Assumes nothing.
 use mathlib.Core.Path.{_≡_, refl, sym, ap, _∙_}
-use mathlib.Core.Bool.{Bool, true, false, not}
+use mathlib.Core.Bool.{Bool, true, false}
 use mathlib.Core.List.{List}
 use Prim.Native.Nat.{ℕ, zero, suc, _-_, _≤_}
 use native.Mathlib.Omega.{arith}
-use borrow.Author.Tests.{not-true, not-false}
-use Rattle.model.specs.Words.{Pointer, indirect-in, Instruction}
+use Rattle.model.specs.Words.{Pointer, indirect-in, descriptor-in}
 use Rattle.model.specs.Registers.{Dbr, Machine}
 use Rattle.model.specs.Program.{Program, Outcome, faults, execute, descriptor-of, absolute-address, word-at, use-answer, or-fault}
-use Rattle.model.specs.Step.{first-address, chain}
-use Rattle.words.specs.View.{as-pointer, Pointer-within}
-use Rattle.words.specs.declared.pointer.Pointer as Code
-use Rattle.segments.specs.Translation.{descriptor-at, use-at}
-use Rattle.addressing.specs.Address.{pointer-answer, pointer-word-at, pointer-leads, pointed, Formed, bad, good, or-bad, through, Addressed, operand-program, operand-formed}
-use Rattle.addressing.specs.declared.Pointed.{Pointed}
-use Rattle.addressing.specs.declared.Pointed.the-variants.{Refused, Next}
+use Rattle.model.specs.Questions.{read-questions}
+use Rattle.model.specs.Step.{next-address, chain}
+use Rattle.words.specs.declared.descriptor.Descriptor.{Descriptor}
+use Rattle.segments.specs.Translation.{descriptor-word, use-at, use-by, word-through, accessed}
+use Rattle.segments.specs.declared.access.Accessed.{Accessed}
+use Rattle.segments.specs.declared.access.Accessed.the-variants.{Refused, Word}
+use Rattle.segments.proofs.UseLaws.{looks-passes}
+use Rattle.addressing.specs.Address.{pointer-answer, pointer-word-at, pointer-leads, Formed, bad, good, or-bad, through, as-formed, Addressed}
 use Rattle.addressing.specs.declared.Address.{Address}
-use Rattle.addressing.specs.declared.Address.the-variants.{Bad, Good}
 
 or-bad-no : (k : ℕ) (t : Pointer) (x : Formed) → 1 ≤ k → or-bad k t x ≡ bad k t
 unfolding or-bad
@@ -54,24 +53,25 @@ module _ (b : Dbr) (m : List ℕ) (t : Pointer) (left : ℕ) (more : Bool) (z : 
     pub bad-when-none-left : left ≡ 0 → bad 31 t ≡ z
     bad-when-none-left f = sym (through-none-left b m t) ∙ (rw (e, f) at s)
 
-    module _ (h : left ≡ 0 → ⊥) (x : Pointed) (g : pointed b m t x) where
+    module _ (h : left ≡ 0 → ⊥) (x : Accessed) (g : accessed b m t (read-questions t) x) where
       pub bad-when-refused : (n : ℕ) → x ≡ Refused n → bad n t ≡ z
+      unfolding pointer-answer
       bad-when-refused n f =
           let k = rw f at g in
           sym (through-refused b m t (left - 1) n (k .0) (k .1)) ∙ (rw (e, one-more left h) at s)
 
-      pub through-from-next : (p : Code.Pointer) (i : Bool) → x ≡ Next p i → through (left - 1) i b m (as-pointer p) ≡ z
-      through-from-next p i f =
-          let k = rw f at g in
-          rw (k .0 .next-same, k .0 .more-same) (sym (through-next b m t (left - 1) (k .0 .passes))) ∙ (rw (e, one-more left h) at s)
+      pub through-from-next : (d : Descriptor) (w : ℕ) (i : Bool) (p : Pointer) → x ≡ Word d w → p ≡ next-address t (descriptor-in (d .0)) w → i ≡ indirect-in w →
+          through (left - 1) i b m p ≡ z
+      unfolding pointer-answer pointer-word-at pointer-leads
+      through-from-next d w i p f j k =
+          let r = rw f at g in
+          rw (j, k, r .word-same, r .looks .found .same) (sym (through-next b m t (left - 1) (looks-passes b m t (read-questions t) (d .0) (r .looks))))
+          ∙ (rw (e, one-more left h) at s)
 
-pub next-within : (b : Dbr) (m : List ℕ) (t : Pointer) (x : Pointed) (p : Code.Pointer) (i : Bool) → pointed b m t x → x ≡ Next p i → Pointer-within p
-next-within b m t x p i g e = (rw e at g) .1
-
-pub ruleset chains = (good-when-off, bad-when-none-left, bad-when-refused, through-from-next, next-within)
+pub ruleset chains = (good-when-off, bad-when-none-left, bad-when-refused, through-from-next)
 
 -- where a chain goes, what is done there; else its fault
-landed : Machine → (Pointer → Program) → Formed → Outcome
+unfoldable pub landed : Machine → (Pointer → Program) → Formed → Outcome
 landed m f (bad n t) = faults n t
 landed m f (good t) = execute m (f t)
 
@@ -83,39 +83,13 @@ landed-after m f (suc k) t x y e = refl
 
 chain-lands : (m : Machine) (f : Pointer → Program) (left : ℕ) (i : Bool) (t : Pointer) →
     execute m (chain left i t f) ≡ landed m f (through left i (m .registers .dbr) (m .memory) t)
-unfolding chain execute landed through use-answer descriptor-of absolute-address word-at pointer-answer pointer-word-at pointer-leads use-at descriptor-at
+unfolding chain execute landed through use-answer descriptor-of absolute-address word-at pointer-answer pointer-word-at pointer-leads use-by use-at descriptor-word word-through
 chain-lands m f zero true t = refl
 chain-lands m f zero false t = refl
 chain-lands m f (suc left) true t = landed-after m f _ t _ _ (chain-lands m f left _ _)
 chain-lands m f (suc left) false t = refl
 
--- AN OPERAND, formed or not
-good-executes : (m : Machine) (f : Pointer → Program) (x : Formed) (o : Outcome) → o ≡ landed m f x → (t : Pointer) → good t ≡ x → o ≡ execute m (f t)
-unfolding landed
-good-executes m f x o e t g = rw (← g) at e
-
-bad-faults : (m : Machine) (f : Pointer → Program) (x : Formed) (o : Outcome) → o ≡ landed m f x → (n : ℕ) (t : Pointer) → bad n t ≡ x → o ≡ faults n t
-unfolding landed
-bad-faults m f x o e n t g = rw (← g) at e
-
-module _ (o : Bool) (i : Instruction) (m : Machine) where
-  operand-lands : o ≡ true → (f : Pointer → Program) →
-      execute m (operand-program o i (m .registers) f)
-      ≡ landed m f (through 64 (i .i) (m .registers .dbr) (m .memory) (first-address i (m .registers)))
-  unfolding operand-program
-  operand-lands e f = rw e (chain-lands m f 64 (i .i) (first-address i (m .registers)))
-
-  operand-formed-by-chain : o ≡ true → (x : Address) → Addressed (m .registers .dbr) (m .memory) (i .i) (first-address i (m .registers)) x → operand-formed o i m x
-  operand-formed-by-chain e (Bad n t) s = λ f. bad-faults m f _ _ (operand-lands e f) n (as-pointer t) (s .same)
-  operand-formed-by-chain e (Good t) s = ((λ f. good-executes m f _ _ (operand-lands e f) (as-pointer t) (s .same)), s .within)
-
-  pub operand-formed-same : (r j : Bool) (t : Pointer) (x : Address) → r ≡ o → not r ≡ false → j ≡ i .i → t ≡ first-address i (m .registers) →
-      Addressed (m .registers .dbr) (m .memory) j t x → operand-formed o i m x
-  operand-formed-same r j t x e v g h s = operand-formed-by-chain (sym e ∙ not-false r v) x (rw (g, h) at s)
-
-  pub ipr-without-operand : (r : Bool) (f : Pointer → Program) (p : Program) → r ≡ o → not r ≡ true → f (m .registers .ipr) ≡ p →
-      execute m (operand-program o i (m .registers) f) ≡ execute m p
-  unfolding operand-program
-  ipr-without-operand r f p e v g = rw (sym e ∙ not-true r v) (ap (execute m) g)
-
-pub ruleset operands = (operand-formed-same, ipr-without-operand)
+-- AN OPERAND at the end of a chain
+pub chain-formed : (m : Machine) (t : Pointer) (x : Address) → Addressed (m .registers .dbr) (m .memory) t x → (f : Pointer → Program) →
+    execute m (chain 64 true t f) ≡ landed m f (as-formed x)
+chain-formed m t x s f = chain-lands m f 64 true t ∙ ap (landed m f) (sym (s .same))

@@ -9,22 +9,27 @@ use lib.ListN.{length, take, drop, getD, length-append, length-map}
 use lib.Seq.{take-at, drop-at, take-suc, length-take-le}
 use Rattle.model.specs.Words.{Pointer, pointer-in}
 use Rattle.model.specs.Registers.{Machine}
+use Rattle.model.specs.Answers.{Numbers, reply-numbers}
+use Rattle.model.specs.Questions.{start-questions}
 use Rattle.model.specs.Program.{faults, completes, halts}
 use Rattle.model.specs.Step.{step}
 use Rattle.model.specs.Run as Run
-use Rattle.model.specs.Run.{ran, run-from, trace-from, spent, halted, fault, refused}
+use Rattle.model.specs.Run.{ran, run, run-from, trace-from, spent, halted, fault, refused}
 use Rattle.model.specs.Listing.{step-line, step-lines, last-line}
-use Rattle.model.proofs.RunLaws.{along-run, run-faults, run-halts, run-completes, trace-faults, trace-halts, trace-completes}
+use Rattle.model.proofs.RunLaws.{along-run, run-goes, run-faults, run-halts, run-completes, trace-faults, trace-halts, trace-completes}
 use Rattle.model.proofs.ListingLaws.{step-lines-append}
 use Rattle.words.specs.View.{as-pointer, Pointer-within, Decoded-pointer}
 use Rattle.words.specs.declared.pointer.Pointer as Code
-use Rattle.run.specs.declared.Ran.{Ran}
 use Rattle.run.specs.declared.Reply.{Reply}
 use Rattle.run.specs.declared.Reply.the-variants.{Refused, Spent, Halted, Fault}
-use Rattle.run.specs.Run.{as-reply, Reply-within, completed, Traced}
-use Rattle.segments.specs.View.{as-machine, as-pointers}
+use Rattle.run.specs.Run.{as-reply, Reply-within, completed, noted-pointers}
+use Rattle.segments.specs.View.{as-machine}
+use Rattle.segments.specs.declared.state.Core.{Core}
+use Rattle.machine.specs.declared.Answered.{Answered}
+use Rattle.machine.specs.Answered.{Answered-as, reply-in, Replies}
+use Rattle.machine.proofs.AnswerLaws.{reply-of-numbers, count-completed}
 use Rattle.chunks.specs.declared.Chunk.{Chunk}
-use Rattle.text.specs.Text.{placed}
+use Rattle.text.specs.Text.{placed, Put}
 use Rattle.chunks.specs.Chunk.{text-from, ends-run, ending, Chunk-written, Chunk-listed}
 use Rattle.text.proofs.TextLaws.{placed-none, length-placed, next-after, put-after}
 
@@ -132,7 +137,7 @@ module _ (b : ℕ) (m k : Machine) (y : Reply) (e : run-from b 0 m ≡ ran (as-r
   by-reply (Halted n) h = let z = h .count in omega arith
   by-reply (Fault n d t) h = let z = h .count in omega arith
 
-  pub completed-within : completed y ≤ b
+  completed-within : completed y ≤ b
   completed-within = by-reply y chunk-as
 
   module _ (c left : ℕ) where
@@ -175,80 +180,106 @@ module _ (a r : ℕ) (w t u : List ℕ) (p : u ≡ placed a w t) (q : r ≡ a + 
   put-length = ap length p ∙ length-placed a w t (omega arith)
 
 -- THE STEPS' LINES, one after another from their trace
-lines-next : (c i : ℕ) (l : List ℕ) (p : Pointer) → i < length l → p ≡ pointer-in (getD l i 0) →
-    step-lines c (as-pointers (take i l)) ++ step-line (c + i + 1) p ≡ step-lines c (as-pointers (take (i + 1) l))
+module _ (w v a : ℕ) (p : Code.Pointer) (e : Decoded-pointer w p) where
+  pub step-put : (t u : List ℕ) → u ≡ placed a (step-line v (as-pointer p)) t → u ≡ placed a (step-line v (pointer-in w)) t
+  step-put t u h = h ∙ ap (λ q. placed a (step-line v q) t) (e .same)
+
+  pub next-after-step : (r : ℕ) → r ≡ a + length (step-line v (as-pointer p)) → r ≡ a + length (step-line v (pointer-in w))
+  next-after-step r h = h ∙ ap (λ q. a + length (step-line v q)) (e .same)
+
+pub ruleset line-of-a-step = (step-put, next-after-step)
+
+lines-next : (c i v : ℕ) (l : List ℕ) → i < length l → v ≡ c + i + 1 →
+    step-lines c (noted-pointers (take i l)) ++ step-line v (pointer-in (getD l i 0)) ≡ step-lines c (noted-pointers (take (i + 1) l))
 unfolding step-lines
-lines-next c i l p h e =
-    let n : length (as-pointers (take i l)) ≡ i = length-map (take i l) pointer-in ∙ length-take-le i l (omega arith) in
+lines-next c i v l h e =
+    let p : Pointer = pointer-in (getD l i 0) in
+    let n : length (noted-pointers (take i l)) ≡ i = length-map (take i l) pointer-in ∙ length-take-le i l (omega arith) in
     sym
-    (ap (λ k. step-lines c (as-pointers (take k l))) (add-one i) ∙ ap (λ xs. step-lines c (as-pointers xs)) (take-suc l i 0 h)
+    (ap (λ k. step-lines c (noted-pointers (take k l))) (add-one i) ∙ ap (λ xs. step-lines c (noted-pointers xs)) (take-suc l i 0 h)
     ∙ ap (step-lines c) (map-append pointer-in (take i l) (getD l i 0 ∷ []))
-    ∙ step-lines-append c (as-pointers (take i l)) (pointer-in (getD l i 0) ∷ [])
-    ∙ ap (λ t. step-lines c (as-pointers (take i l)) ++ t) (append-nil (step-line (suc (c + length (as-pointers (take i l)))) (pointer-in (getD l i 0))))
-    ∙ ap₂ (λ k q. step-lines c (as-pointers (take i l)) ++ step-line k q) (omega arith) (sym e))
+    ∙ step-lines-append c (noted-pointers (take i l)) (p ∷ [])
+    ∙ ap (λ t. step-lines c (noted-pointers (take i l)) ++ t) (append-nil (step-line (suc (c + length (noted-pointers (take i l)))) p))
+    ∙ ap (λ k. step-lines c (noted-pointers (take i l)) ++ step-line k p) (omega arith))
 
-module _ (a c : ℕ) (l t : List ℕ) where
-  pub no-line-put : t ≡ placed a (step-lines c (as-pointers (take 0 l))) t
+module _ (a c : ℕ) (l : List ℕ) where
+  pub no-line-put : (t : List ℕ) → t ≡ placed a (step-lines c (noted-pointers (take 0 l))) t
   unfolding step-lines
-  no-line-put = sym (placed-none a t)
+  no-line-put t = sym (placed-none a t)
 
-  pub no-line-long : a ≡ a + length (step-lines c (as-pointers (take 0 l)))
+  pub no-line-long : a ≡ a + length (step-lines c (noted-pointers (take 0 l)))
   unfolding step-lines
   no-line-long = omega arith
 
-  module _ (i r : ℕ) (q : r ≡ a + length (step-lines c (as-pointers (take i l)))) where
-    module _ (n : ℕ) (room : a + 64 * n ≤ length t) (h : i < n) (k : n ≤ length l) (p : Code.Pointer) (e : Decoded-pointer (getD l i 0) p) (s : ℕ)
-        (g : s ≡ r + length (step-line (c + i + 1) (as-pointer p))) where
-      pub line-long : s ≡ a + length (step-lines c (as-pointers (take (i + 1) l)))
+  module _ (i r : ℕ) (q : r ≡ a + length (step-lines c (noted-pointers (take i l)))) where
+    module _ (n : ℕ) (h : i < n) (k : n ≤ length l) (d v s : ℕ) (before : d ≡ c + i) (now : v ≡ d + 1) (g : s ≡ r + length (step-line v (pointer-in (getD l i 0)))) where
+      with-line : step-lines c (noted-pointers (take i l)) ++ step-line v (pointer-in (getD l i 0)) ≡ step-lines c (noted-pointers (take (i + 1) l))
+      with-line = lines-next c i v l (omega arith) (omega arith)
+
+      pub line-long : s ≡ a + length (step-lines c (noted-pointers (take (i + 1) l)))
       line-long =
-          next-after a r s (step-lines c (as-pointers (take i l))) (step-line (c + i + 1) (as-pointer p)) q g
-          ∙ ap (λ z. a + length z) (lines-next c i l (as-pointer p) (omega arith) (e .same))
+          next-after a r s (step-lines c (noted-pointers (take i l))) (step-line v (pointer-in (getD l i 0))) q g
+          ∙ ap (λ z. a + length z) with-line
 
-      pub line-put : (u v : List ℕ) → u ≡ placed a (step-lines c (as-pointers (take i l))) t → v ≡ placed r (step-line (c + i + 1) (as-pointer p)) u →
-          r ≤ a + 64 * i → s ≤ r + 64 →
-          v ≡ placed a (step-lines c (as-pointers (take (i + 1) l))) t
-      line-put u v f o x y =
-          put-after a r s (step-lines c (as-pointers (take i l))) (step-line (c + i + 1) (as-pointer p)) t u v f q o g (omega arith)
-          ∙ ap (λ z. placed a z t) (lines-next c i l (as-pointer p) (omega arith) (e .same))
+      pub line-put : (t u w : List ℕ) → u ≡ placed a (step-lines c (noted-pointers (take i l))) t → w ≡ placed r (step-line v (pointer-in (getD l i 0))) u →
+          r ≤ a + 64 * i → s ≤ r + 64 → a + 64 * n ≤ length t →
+          w ≡ placed a (step-lines c (noted-pointers (take (i + 1) l))) t
+      line-put t u w f o x y room =
+          put-after a r s (step-lines c (noted-pointers (take i l))) (step-line v (pointer-in (getD l i 0))) t u w f q o g (omega arith)
+          ∙ ap (λ z. placed a z t) with-line
 
-    module _ (n : ℕ) (h : i ≤ n) (k : n ≤ i) where
-      pub every-line-long : r ≡ a + length (step-lines c (as-pointers (take n l)))
-      every-line-long = q ∙ ap (λ z. a + length (step-lines c (as-pointers (take z l)))) (let y : i ≡ n = omega arith in y)
+    pub every-line-long : (n : ℕ) → i ≤ n → n ≤ i → r ≡ a + length (step-lines c (noted-pointers (take n l)))
+    every-line-long n h k = q ∙ ap (λ z. a + length (step-lines c (noted-pointers (take z l)))) (let y : i ≡ n = omega arith in y)
 
-  pub every-line-put : (i n : ℕ) (u : List ℕ) → u ≡ placed a (step-lines c (as-pointers (take i l))) t → i ≤ n → n ≤ i →
-      u ≡ placed a (step-lines c (as-pointers (take n l))) t
-  every-line-put i n u f h k = f ∙ ap (λ z. placed a (step-lines c (as-pointers (take z l))) t) (let y : i ≡ n = omega arith in y)
+  pub every-line-put : (i n : ℕ) (t u : List ℕ) → u ≡ placed a (step-lines c (noted-pointers (take i l))) t → i ≤ n → n ≤ i →
+      u ≡ placed a (step-lines c (noted-pointers (take n l))) t
+  every-line-put i n t u f h k = f ∙ ap (λ z. placed a (step-lines c (noted-pointers (take z l))) t) (let y : i ≡ n = omega arith in y)
 
-pub ruleset lines-of-steps = (no-line-put, no-line-long, line-long, line-put, every-line-long, every-line-put)
+pub ruleset lines-of-steps = (no-line-put, no-line-long, every-line-long, every-line-put)
 
--- A CHUNK'S STEPS: as many as the reply counts, and their trace is the definition's
-module _ (b : ℕ) (m k : Machine) (y : Reply) (e : run-from b 0 m ≡ ran (as-reply y) k) (n : ℕ) (f : n ≡ completed y) where
-  steps-within : n ≤ b
-  steps-within = let h = completed-within b m k y e in omega arith
+-- A CHUNK'S RUN AND ITS LINES: 1 to 4 pass, so it is the definition's run; as many lines as the reply counts, and their trace is the definition's
+module _ (b : ℕ) (core : Core) (prs memory l₀ : List ℕ) (x : Answered) (prs-now memory-now l : List ℕ) (w : Answered-as b core prs memory l₀ x prs-now memory-now l)
+    (passes : start-questions (as-machine core prs memory) ≡ 0) (y : Reply) (r : Replies x y) where
+  reply-same : as-reply y ≡ run b (as-machine core prs memory) .reply
+  reply-same = r .same ∙ ap reply-in (w .numbers-same) ∙ reply-of-numbers _
 
-  pub steps-have-room : (a l : ℕ) → a + 64 * b ≤ l → a + 64 * n ≤ l
-  steps-have-room a l h = let g = steps-within in omega arith
+  count-same : completed y ≡ x .count
+  count-same =
+      sym (count-completed y) ∙ ap (λ (p : Run.Reply). reply-numbers p .count) reply-same ∙ sym (ap (λ (n : Numbers). n .count) (w .numbers-same))
 
-  pub steps-traced : (x : Ran) (l₀ l : List ℕ) → Traced b m x l₀ l → b ≤ length l₀ → n ≤ length l
-  steps-traced x l₀ l w h = let g = steps-within in let q = w .size-same in omega arith
+  run-same : run-from b 0 (as-machine core prs memory) ≡ ran (as-reply y) (as-machine (x .core) prs-now memory-now)
+  unfolding ran
+  run-same = sym (run-goes b (as-machine core prs memory) passes) ∙ sym (ap₂ ran reply-same (w .machine-same))
 
-  pub steps-fit : (c : ℕ) → c + b < 2 ^ 32 → c + n < 2 ^ 32
-  steps-fit c h = let g = steps-within in omega arith
+  within-budget : completed y ≤ b
+  within-budget = completed-within b (as-machine core prs memory) (as-machine (x .core) prs-now memory-now) y run-same
 
-  pub steps-near : (a r : ℕ) → r ≤ a + 64 * n → r ≤ a + 64 * b
-  steps-near a r h = let g = steps-within in omega arith
+  module _ (n : ℕ) (f : n ≡ completed y) where
+    pub steps-have-room : (a l : ℕ) → a + 64 * b ≤ l → a + 64 * n ≤ l
+    steps-have-room a l h = let g = within-budget in omega arith
 
-module _ (b : ℕ) (m : Machine) (x : Ran) (l₀ l : List ℕ) (w : Traced b m x l₀ l) (h : b ≤ length l₀) (n : ℕ) (f : n ≡ completed (x .reply)) (a c : ℕ) where
-  same-lines : step-lines c (as-pointers (take n l)) ≡ step-lines c (trace-from b m)
-  same-lines = ap (step-lines c) (ap (λ i. as-pointers (take i l)) f ∙ w .traced h)
+    pub steps-traced : b ≤ length l₀ → n ≤ length l
+    steps-traced h = let g = within-budget in let q = w .trace-size in omega arith
 
-  pub trace-put : (t u : List ℕ) → u ≡ placed a (step-lines c (as-pointers (take n l))) t → u ≡ placed a (step-lines c (trace-from b m)) t
-  trace-put t u p = p ∙ ap (λ z. placed a z t) same-lines
+    pub steps-fit : (c : ℕ) → c + b < 2 ^ 32 → c + n < 2 ^ 32
+    steps-fit c h = let g = within-budget in omega arith
 
-  pub trace-long : (r : ℕ) → r ≡ a + length (step-lines c (as-pointers (take n l))) → r ≡ a + length (step-lines c (trace-from b m))
-  trace-long r p = p ∙ ap (λ z. a + length z) same-lines
+    module _ (h : b ≤ length l₀) (c a : ℕ) (t u : List ℕ) (z : ℕ) (p : Put (64 * n) a (step-lines c (noted-pointers (take n l))) t u z) where
+      same-lines : step-lines c (noted-pointers (take n l)) ≡ step-lines c (trace-from b (as-machine core prs memory))
+      same-lines = ap (step-lines c) (ap (λ i. noted-pointers (take i l)) (f ∙ count-same) ∙ w .traced passes h)
 
-pub ruleset lines-of-a-chunk = (completed-within, steps-have-room, steps-traced, steps-fit, steps-near, trace-put, trace-long)
+      pub chunk-written : Chunk-written (as-machine core prs memory) c b a t (record { ran = record { reply = y; core = x .core }; length = z })
+          (as-machine (x .core) prs-now memory-now) u
+      chunk-written =
+          record {
+            ran-same = record { same = run-same; pointer-within = r .within; passes = w .passes passes };
+            counted = within-budget;
+            put = (
+              p .0 ∙ ap (λ q. placed a q t) same-lines,
+              p .1 ∙ ap (λ q. a + length q) same-lines,
+              let g = within-budget in let q = p .2 in omega arith,
+            );
+          }
 
 -- THE ENDING, by the reply that is at hand
 module _ (y : Reply) (c : ℕ) where
@@ -282,7 +313,7 @@ module _ (y : Reply) (c : ℕ) where
 pub ruleset endings = (halt-fits, fault-fits, fault-within, ending-known, ending-put, ending-long, no-ending-put, no-ending-long)
 
 -- THE CHUNK WHOLE
-module _ (m : Machine) (c b a : ℕ) (t : List ℕ) (x : Chunk) (memory u : List ℕ) (w : Chunk-written m c b a t x memory u)
+module _ (m : Machine) (c b a : ℕ) (t : List ℕ) (x : Chunk) (k : Machine) (u : List ℕ) (w : Chunk-written m c b a t x k u)
     (room : a + 64 * b + 64 ≤ length t) where
   pub ending-has-room : x .length + 64 ≤ length u
   ending-has-room = let g = w .put in let q : length u ≡ length t = put-length a (x .length) _ t u (g .0) (g .1) (omega arith) in omega arith
@@ -312,14 +343,14 @@ module _ (m : Machine) (c b a : ℕ) (t : List ℕ) (x : Chunk) (memory u : List
     no-ending (Halted n) g = absurd (true≢false g)
     no-ending (Fault n d z) g = absurd (true≢false g)
 
-    pub chunk-listed : Chunk-listed m c b a t (record { core = x .ran .core; length = r; «is_last» = last }) (as-machine (x .ran .core) (x .ran .prs) memory) v
+    pub chunk-listed : Chunk-listed m c b a t (record { core = x .ran .core; length = r; «is_last» = last }) k v
     unfolding lines
     chunk-listed =
         record {
           goes-on = λ g left.
               ap (λ z. take a t ++ z) (sym (text-goes-on b m _ (x .ran .reply) (w .ran-same .same) c left (sym f ∙ g)))
               ∙ sym (append-assoc (take a t) _ _)
-              ∙ ap (λ z. z ++ text-from left (c + b) (as-machine (x .ran .core) (x .ran .prs) memory))
+              ∙ ap (λ z. z ++ text-from left (c + b) k)
               (ap (λ z. take a t ++ z) (sym (append-nil (step-lines c (trace-from b m))) ∙ ap (λ z. step-lines c (trace-from b m) ++ z) (sym (no-ending (x .ran .reply) (sym f ∙ g))))
               ∙ sym (put-take a r lines t v put-lines long-lines fits));
           ends = λ g left.
@@ -330,7 +361,7 @@ module _ (m : Machine) (c b a : ℕ) (t : List ℕ) (x : Chunk) (memory u : List
           fits = fits;
           grows = omega (arith, long-lines);
           near = let g = w .put in omega arith;
-          short = λ g. let k : length (ending c (x .ran .reply)) ≡ 0 = ap length (no-ending (x .ran .reply) (sym f ∙ g)) in let y = w .put in omega arith;
+          short = λ g. let e : length (ending c (x .ran .reply)) ≡ 0 = ap length (no-ending (x .ran .reply) (sym f ∙ g)) in let y = w .put in omega arith;
           passes = w .ran-same .passes;
         }
 

@@ -2,7 +2,7 @@
 use mathlib.Core.Path.{_≡_}
 use mathlib.Core.Bool.{Bool, true, false}
 use mathlib.Core.List.{List, [], _++_}
-use Prim.Native.Nat.{ℕ, _+_, _-_, _*_, _≤_}
+use Prim.Native.Nat.{ℕ, _+_, _*_, _≤_}
 use lib.ListN.{length, take, drop}
 use Rattle.model.specs.Registers.{Machine}
 use Rattle.model.specs.Questions.{start-questions}
@@ -35,8 +35,8 @@ ending c (Halted d) = last-line (halted (c + d))
 ending c (Fault n d t) = last-line (fault n (c + d) (as-pointer t))
 
 -- the run of some steps, and the lines of those that it completes after what stands before `at`
-pub record Chunk-written (m : Machine) (count steps at : ℕ) (text : List ℕ) (x : Chunk) (memory-now text-now : List ℕ) : Type 0 where
-  pub ran-same : Ran-as (run-from steps 0 m) (x .ran) memory-now
+pub record Chunk-written (m : Machine) (count steps at : ℕ) (text : List ℕ) (x : Chunk) (m-now : Machine) (text-now : List ℕ) : Type 0 where
+  pub ran-same : Ran-as (run-from steps 0 m) (x .ran) m-now
   pub counted : completed (x .ran .reply) ≤ steps
   pub put : Put (64 * steps) at (step-lines count (trace-from steps m)) text text-now (x .length)
 

@@ -3,11 +3,14 @@ ghost use mathlib.Core.Path.{_≡_};
 ghost use Prim.Native.Nat.{_+_, _*_, _^_, _≤_, _<_};
 ghost use lib.ListN.{length, take};
 ghost use Rattle.model.specs.Questions.{start-questions};
-ghost use Rattle.model.specs.Listing.{step-lines};
-ghost use Rattle.segments.specs.View.{as-machine, as-pointers};
-ghost use Rattle.run.specs.Run.{Reply-within, completed};
+ghost use Rattle.model.specs.Words.{pointer-in};
+ghost use Rattle.model.specs.Listing.{step-line, step-lines};
+ghost use Rattle.segments.specs.View.{as-machine};
+ghost use Rattle.run.specs.Run.{Reply-within, completed, noted-pointers};
 ghost use Rattle.text.specs.Text.{Put};
+ghost use Rattle.lines.specs.Kept.{Kept};
 ghost use Rattle.chunks.specs.Chunk.{ends-run, ending, Chunk-written, Chunk-listed};
+use lines::Number;
 use run::Ran;
 use run::Reply;
 use segments::state::Core;
@@ -43,16 +46,27 @@ fn steps_of(reply: Reply) -> u32
     }
 }
 
+// The line of a step, from the word of the trace that holds IPR after it.
+fn put_step(text: &mut [u8], at: usize, tens: &[u8; 10], number: Number, word: u64) -> usize
+    requires { ⌜ (at + 64 ≤ length (now text)) × Kept (now tens) number ⌝ }
+    ensures { λ r. ⌜ Put 64 at (step-line (number .value) (pointer-in word)) (now (text .entry)) (now (text .exit)) r ⌝ }
+{
+    let p = words::pointer::decode(word);
+    lines::put_step_line(text, at, tens, number, p)
+}
+
 // The lines of so many steps, from their trace.
 fn put_steps(text: &mut [u8], at: usize, count: u32, trace: &[u64], steps: u32) -> usize
     requires { ⌜ (at + 64 * steps ≤ length (now text)) × (steps ≤ length (now trace)) × (count + steps < 2 ^ 32) ⌝ }
-    ensures { λ r. ⌜ Put (64 * steps) at (step-lines count (as-pointers (take steps (now (trace .entry))))) (now (text .entry)) (now (text .exit)) r ⌝ }
+    ensures { λ r. ⌜ Put (64 * steps) at (step-lines count (noted-pointers (take steps (now (trace .entry))))) (now (text .entry)) (now (text .exit)) r ⌝ }
 {
+    let mut tens: [u8; 10] = [48; 10];
+    let mut number = lines::number_of(&mut tens, count);
     let mut end = at;
     let mut i: u32 = 0;
     while i < steps {
-        let p = words::pointer::decode(trace[i as usize]);
-        end = lines::put_step_line(text, end, count + i + 1, p);
+        number = lines::next(&mut tens, number);
+        end = put_step(text, end, &tens, number, trace[i as usize]);
         i += 1;
     }
     end
@@ -61,21 +75,36 @@ fn put_steps(text: &mut [u8], at: usize, count: u32, trace: &[u64], steps: u32) 
 // A run of at most 256 steps, and the lines of those that it completes.
 fn put_chunk(
     core: Core,
-    start: [u64; 8],
+    prs: &mut [u16; 24],
     memory: &mut [u64],
     count: u32,
     steps: u32,
     text: &mut [u8],
     at: usize,
 ) -> Chunk
-    requires { ⌜ (start-questions (as-machine core start (now memory)) ≡ 0) × (at + 64 * steps ≤ length (now text)) × (steps ≤ 256) × (count + steps < 2 ^ 32) ⌝ }
-    ensures { λ x. ⌜ Chunk-written (as-machine core start (now (memory .entry))) count steps at (now (text .entry)) x (now (memory .exit)) (now (text .exit)) ⌝ }
+    requires { ⌜ (start-questions (as-machine core (now prs) (now memory)) ≡ 0) × (at + 64 * steps ≤ length (now text)) × (steps ≤ 256) × (count + steps < 2 ^ 32) ⌝ }
+    ensures { λ x. ⌜ Chunk-written (as-machine core (now (prs .entry)) (now (memory .entry))) count steps at (now (text .entry)) x (as-machine (x .ran .core) (now (prs .exit)) (now (memory .exit))) (now (text .exit)) ⌝ }
 {
     let mut trace: [u64; 256] = [0; 256];
-    let ran = run::run(core, start, memory, steps, &mut trace);
-    let reply = ran.reply;
+    let y = machine::run(
+        core.a,
+        core.dbr.address,
+        core.dbr.length,
+        core.ipr.ring,
+        core.ipr.segment.0,
+        core.ipr.word.0,
+        prs,
+        memory,
+        steps,
+        &mut trace,
+    );
+    let reply = machine::reply_of(y);
+    let after = y.core;
     let length = put_steps(text, at, count, &trace, steps_of(reply));
-    Chunk { ran, length }
+    Chunk {
+        ran: Ran { reply, core: after },
+        length,
+    }
 }
 
 // The last line, where a chunk's reply ends the run.
@@ -106,7 +135,7 @@ fn put_ending(text: &mut [u8], at: usize, count: u32, reply: Reply) -> Ending
 // The lines of a chunk, and the last line where the run ends with it.
 pub fn list_chunk(
     core: Core,
-    prs: &mut [u64; 8],
+    prs: &mut [u16; 24],
     memory: &mut [u64],
     count: u32,
     steps: u32,
@@ -116,11 +145,8 @@ pub fn list_chunk(
     requires { ⌜ (start-questions (as-machine core (now prs) (now memory)) ≡ 0) × (at + 64 * steps + 64 ≤ length (now text)) × (steps ≤ 256) × (count + steps < 2 ^ 32) ⌝ }
     ensures { λ x. ⌜ Chunk-listed (as-machine core (now (prs .entry)) (now (memory .entry))) count steps at (now (text .entry)) x (as-machine (x .core) (now (prs .exit)) (now (memory .exit))) (now (text .exit)) ⌝ }
 {
-    let start = *prs;
-    let x = put_chunk(core, start, memory, count, steps, text, at);
+    let x = put_chunk(core, prs, memory, count, steps, text, at);
     let ran = x.ran;
-    let after = ran.prs;
-    *prs = after;
     let reply = ran.reply;
     let end = put_ending(text, x.length, count, reply);
     let core = ran.core;

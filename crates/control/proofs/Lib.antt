@@ -1,3 +1,3 @@
 -- Laws of this crate. Assumes nothing.
-pub mod ControlLaws
+pub mod MoveLaws
 pub mod RaiseLaws

@@ -5,11 +5,10 @@ use Prim.Native.Nat.{ℕ, zero, suc, _+_, _≤_, max}
 use native.Mathlib.Nat.{le-of-suc-le-suc, not-suc-le-zero}
 use native.Mathlib.Numerals.{add-one}
 use native.Mathlib.Omega.{arith}
-use lib.ListN.{length, getD, set, length-map, List·getD-map}
-use Rattle.model.specs.Words.{Pointer, pointer-in}
-use Rattle.model.specs.Registers.{with-ring-at-least}
-use Rattle.model.proofs.WordLaws.{pointer-in-within}
-use Rattle.segments.specs.View.{as-pointers}
+use lib.ListN.{length, getD, set}
+use Rattle.model.specs.Words.{Pointer}
+use Rattle.model.specs.Registers.{zero-pointer, with-ring-at-least}
+use Rattle.segments.specs.View.{pointers-in, as-pointers, pr-of}
 
 -- the first `count` raised, the rest as they were
 unfoldable pub raised-first : (ring count : ℕ) → List Pointer → List Pointer
@@ -30,13 +29,13 @@ raised-one-more n (suc k) d [] = refl
 raised-one-more n (suc k) d (p ∷ ps) = ap (λ l. with-ring-at-least n p ∷ l) (raised-one-more n k d ps)
 
 pub turn-raises : (n k r j s i : ℕ) (prs : List ℕ) (ps qs : List Pointer) → as-pointers prs ≡ raised-first n k ps →
-    record { ring = j; segment = s; word = i } ≡ pointer-in (getD prs k 0) → r ≡ max n j →
+    record { ring = j; segment = s; word = i } ≡ pr-of prs k → r ≡ max n j →
     qs ≡ set (as-pointers prs) k (record { ring = r; segment = s; word = i }) → qs ≡ raised-first n (k + 1) ps
-unfolding with-ring-at-least
+unfolding with-ring-at-least pr-of
 turn-raises n k r j s i prs ps qs e f g h =
-    let v : record { ring = r; segment = s; word = i } ≡ with-ring-at-least n (getD (as-pointers prs) k (pointer-in 0)) =
-    rw (List·getD-map pointer-in prs k 0, g) (ap (with-ring-at-least n) f) in
-    h ∙ rw (v, e, add-one) (raised-one-more n k (pointer-in 0) ps)
+    let v : record { ring = r; segment = s; word = i } ≡ with-ring-at-least n (getD (as-pointers prs) k zero-pointer) =
+    rw g (ap (with-ring-at-least n) f) in
+    h ∙ rw (v, e, add-one) (raised-one-more n k zero-pointer ps)
 
 raised-all : (n k : ℕ) (ps : List Pointer) → length ps ≤ k → raised-first n k ps ≡ map (with-ring-at-least n) ps
 unfolding raised-first
@@ -45,21 +44,11 @@ raised-all n zero (p ∷ ps) h = absurd (not-suc-le-zero h)
 raised-all n (suc k) [] h = refl
 raised-all n (suc k) (p ∷ ps) h = ap (λ l. with-ring-at-least n p ∷ l) (raised-all n k ps (le-of-suc-le-suc h))
 
-pub all-raised : (n k e : ℕ) (prs : List ℕ) (qs : List Pointer) → qs ≡ raised-first n k (as-pointers prs) → length prs ≡ 8 → e ≡ 8 → e ≤ k →
-    qs ≡ map (with-ring-at-least n) (as-pointers prs)
-all-raised n k e prs qs f l g h = f ∙ raised-all n k (as-pointers prs) (let z = length-map prs pointer-in in omega arith)
+pub all-raised : (n k : ℕ) (prs : List ℕ) (qs : List Pointer) → qs ≡ raised-first n k (as-pointers prs) → 8 ≤ k → qs ≡ map (with-ring-at-least n) (as-pointers prs)
+unfolding as-pointers pointers-in
+all-raised n k prs qs f h = f ∙ raised-all n k (as-pointers prs) h
 
--- bounds of a pointer word's fields, and of its ring once raised
-pub raised-ring-within : (r n j s i w : ℕ) → record { ring = j; segment = s; word = i } ≡ pointer-in w → r ≡ max n j → n ≤ 7 → r ≤ 7
-raised-ring-within r n j s i w f e h =
-    let z = pointer-in-within w .ring-within in
-    let y : j ≡ pointer-in w .ring = ap (λ (p : Pointer). p .ring) f in
-    omega arith
+pub raised-ring-fits : (r n j : ℕ) → r ≡ max n j → n ≤ 7 → j ≤ 255 → r ≤ 255
+raised-ring-fits r n j e h i = omega arith
 
-pub segment-within : (j s i w : ℕ) → record { ring = j; segment = s; word = i } ≡ pointer-in w → s ≤ 4095
-segment-within j s i w f =
-    let z = pointer-in-within w .segment-within in
-    let y : s ≡ pointer-in w .segment = ap (λ (p : Pointer). p .segment) f in
-    omega arith
-
-pub ruleset raises = (none-raised, turn-raises, all-raised, raised-ring-within, segment-within)
+pub ruleset raises = (none-raised, turn-raises, all-raised, raised-ring-fits)

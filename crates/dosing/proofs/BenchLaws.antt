@@ -12,7 +12,7 @@ use borrow.Author.Tests.{le-leb, lt-leb, ne-eqb}
 use mir.Syntax.{w64}
 use mir.Val.{SFits, toZ, ofZ}
 use mir.Facts.{toZ-pos, toZ-ofZ}
-use Rattle.model.specs.Registers.{Registers, Machine, machine}
+use Rattle.model.specs.Registers.{Machine, machine}
 use Rattle.model.specs.Questions.{start-questions}
 use Rattle.model.specs.Run.{unless-refused}
 use Rattle.model.specs.Image as Image
@@ -21,9 +21,11 @@ use Rattle.model.specs.Listing.{listing}
 use Rattle.model.specs.Bench as Bench
 use Rattle.model.specs.Bench.{negated, bench-refused, bench-listed, bench-on, bench}
 use Rattle.segments.specs.View.{as-machine}
-use Rattle.host.specs.declared.prepare.Prepared.{Prepared}
-use Rattle.host.specs.Record.{registers-of, Prepared-as}
-use Rattle.host.proofs.PrepareLaws.{prepared-passes}
+use Rattle.host.specs.declared.record.Registers as Host
+use Rattle.host.specs.Record.{registers-of, machine-of}
+use Rattle.machine.specs.declared.Prepared.{Prepared}
+use Rattle.machine.specs.Answered.{Prepared-as}
+use Rattle.machine.proofs.AskLaws.{prepared-passes}
 use Rattle.listing.specs.Lines.{Whole-listing}
 use Rattle.records.specs.declared.loading.Loading.{Loading}
 use Rattle.image.specs.declared.load.Loaded.{Loaded}
@@ -101,32 +103,30 @@ refuses y n t e h =
       fits = omega arith;
     }
 
-module _ (b : ℕ) (t : List ℕ) (q : Registers) (v : List ℕ) (x : Prepared) (p : Prepared-as (record { registers = q; memory = v }) x) where
-  pub not-prepared : (x .number ≡ 0 → ⊥) → Benched-as (bench-on (checked (record { registers = q; memory = v }) b) t) (record { number = x .number; length = 0 }) t
-  not-prepared h = refuses _ (x .number) t (on-refused b t (record { registers = q; memory = v }) (x .number) (p .asked) h) h
+module _ (b : ℕ) (t : List ℕ) (g : Host.Registers) (v : List ℕ) (x : Prepared) (v-now : List ℕ) (p : Prepared-as g v x v-now) where
+  pub not-prepared : (x .number ≡ 0 → ⊥) → Benched-as (bench-on (checked (machine-of g v) b) t) (record { number = x .number; length = 0 }) t
+  not-prepared h = refuses _ (x .number) t (on-refused b t (machine-of g v) (x .number) (p .asked) h) h
 
   module _ (z : x .number ≡ 0) where
-    pub no-room : length t < 64 * (b + 1) → Benched-as (bench-on (checked (record { registers = q; memory = v }) b) t) (record { number = 45; length = 0 }) t
-    no-room h =
-        refuses _ 45 t
-        (on-passed b t (record { registers = q; memory = v }) (x .number) (p .asked) z ∙ on-45 b t (record { registers = q; memory = v }) h) (λ e. omega arith)
+    pub no-room : length t < 64 * (b + 1) → Benched-as (bench-on (checked (machine-of g v) b) t) (record { number = 45; length = 0 }) t
+    no-room h = refuses _ 45 t (on-passed b t (machine-of g v) (x .number) (p .asked) z ∙ on-45 b t (machine-of g v) h) (λ e. omega arith)
 
-    pub lists : (r : ℕ) (u : List ℕ) → Whole-listing b (as-machine (x .core) (x .prs) v) t r u → 64 * (b + 1) ≤ length t → b < 4294967296 →
-        Benched-as (bench-on (checked (record { registers = q; memory = v }) b) t) (record { number = 0; length = r }) u
+    pub lists : (r : ℕ) (u : List ℕ) → Whole-listing b (as-machine (x .core) (x .prs) v-now) t r u → 64 * (b + 1) ≤ length t → b < 4294967296 →
+        Benched-as (bench-on (checked (machine-of g v) b) t) (record { number = 0; length = r }) u
     unfolding as-answer bench-listed
-    lists r u w h f =
+    lists r u w h s =
         record {
           answer-same = ap pos (w .size) ∙ sym (ap (λ (x : Bench.Benched). x .answer) listed);
           buffer-same = w .text-same ∙ sym (ap (λ (x : Bench.Benched). x .buffer) listed);
           fits = omega (arith, w .short);
         }
       where
-        listed : bench-on (checked (record { registers = q; memory = v }) b) t ≡ bench-listed (listing b (as-machine (x .core) (x .prs) v)) t
+        listed : bench-on (checked (machine-of g v) b) t ≡ bench-listed (listing b (as-machine (x .core) (x .prs) v-now)) t
         listed =
-            on-passed b t (record { registers = q; memory = v }) (x .number) (p .asked) z ∙ on-listed b t (record { registers = q; memory = v }) h
+            on-passed b t (machine-of g v) (x .number) (p .asked) z ∙ on-listed b t (machine-of g v) h
             ∙ ap (λ (k : Machine). bench-listed (listing b k) t) (sym (p .same z))
 
-pub ruleset answers = (not-prepared, no-room, prepared-passes, lists)
+pub ruleset answers = (not-prepared, no-room, lists, prepared-passes)
 
 -- A WHOLE IMAGE, loaded
 -- once RN has come, ME and ST have

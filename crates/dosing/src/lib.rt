@@ -21,7 +21,7 @@ pub fn list_loaded(
 ) -> Benched
     ensures { λ x. ⌜ Benched-as (Bench.bench-on (checked (machine-of registers (now (memory .entry))) budget) (now (text .entry))) x (now (text .exit)) ⌝ }
 {
-    let x = host::prepare::prepare(registers, memory);
+    let x = machine::prepare(registers, memory);
     if x.number != 0 {
         return Benched {
             number: x.number,

@@ -1,20 +1,50 @@
 -- The registers in an ST record, field by field. Assumes nothing.
-use mathlib.Core.Path.{_≡_}
-use mathlib.Core.List.{List, [], _∷_}
-use Prim.Native.Nat.{ℕ, _+_}
+use mathlib.Core.Path.{_≡_, refl, sym, _∙_, ap}
+use mathlib.Core.List.{List, [], _∷_, _++_}
+use Prim.Native.Nat.{ℕ, zero, suc, _+_, _*_, _≤_, _<_}
+use native.Mathlib.Numerals.{add-one}
+use native.Mathlib.Omega.{arith}
+use lib.ListN.{length, getD, set, take}
+use lib.Seq.{take-all, take-suc, take-suc-set}
 use Rattle.model.specs.Words.{Pointer}
 use Rattle.model.specs.Registers.{Registers}
 use Rattle.model.specs.Image.{number-at, pointer-at, pointers-at, registers-at}
+use Rattle.segments.specs.View.{pointers-in, as-pointers}
 
 pub pointer-read : (a n s i : ℕ) (bs : List ℕ) → n ≡ number-at a 1 bs → s ≡ number-at (a + 1) 2 bs → i ≡ number-at (a + 3) 2 bs →
     _≡_ {A = Pointer} (record { ring = n; segment = s; word = i }) (pointer-at a bs)
 unfolding pointer-at
 pointer-read a n s i bs e f g = rw (e, f, g)
 
-pub prs-read : (bs : List ℕ) (p0 p1 p2 p3 p4 p5 p6 p7 : Pointer) → p0 ≡ pointer-at 21 bs → p1 ≡ pointer-at 26 bs → p2 ≡ pointer-at 31 bs → p3 ≡ pointer-at 36 bs →
-    p4 ≡ pointer-at 41 bs → p5 ≡ pointer-at 46 bs → p6 ≡ pointer-at 51 bs → p7 ≡ pointer-at 56 bs → p0 ∷ p1 ∷ p2 ∷ p3 ∷ p4 ∷ p5 ∷ p6 ∷ p7 ∷ [] ≡ pointers-at 8 21 bs
+-- the PRs one after another
+pointer-of-number : (n k a : ℕ) (bs : List ℕ) (d : Pointer) → k < n → getD (pointers-at n a bs) k d ≡ pointer-at (a + 5 * k) bs
 unfolding pointers-at
-prs-read bs p0 p1 p2 p3 p4 p5 p6 p7 e0 e1 e2 e3 e4 e5 e6 e7 = rw (e0, e1, e2, e3, e4, e5, e6, e7)
+pointer-of-number zero k a bs d h = absurd (omega arith)
+pointer-of-number (suc n) zero a bs d h = ap (λ i. pointer-at i bs) (omega arith)
+pointer-of-number (suc n) (suc k) a bs d h = pointer-of-number n k (a + 5) bs d (omega arith) ∙ ap (λ i. pointer-at i bs) (omega arith)
+
+eight-pointers : (prs : List ℕ) → length (as-pointers prs) ≡ 8
+unfolding as-pointers pointers-in
+eight-pointers prs = refl
+
+eight-read : (bs : List ℕ) → length (pointers-at 8 21 bs) ≡ 8
+unfolding pointers-at
+eight-read bs = refl
+
+module _ (bs prs : List ℕ) (k : ℕ) (e : take k (as-pointers prs) ≡ take k (pointers-at 8 21 bs)) where
+  pub one-more-read : (prs-now : List ℕ) (p q : Pointer) → as-pointers prs-now ≡ set (as-pointers prs) k p → p ≡ q → q ≡ pointer-at (21 + 5 * k) bs → k < 8 →
+      take (k + 1) (as-pointers prs-now) ≡ take (k + 1) (pointers-at 8 21 bs)
+  one-more-read prs-now p q f g h b =
+      let x = eight-pointers prs in
+      let y = eight-read bs in
+      let same : p ≡ getD (pointers-at 8 21 bs) k p = g ∙ h ∙ sym (pointer-of-number 8 k 21 bs p b) in
+      rw (add-one, f, take-suc-set (as-pointers prs) k p (omega arith), e, take-suc (pointers-at 8 21 bs) k p (omega arith)) (ap (λ t. take k (pointers-at 8 21 bs) ++ (t ∷ [])) same)
+
+  pub prs-read : 8 ≤ k → as-pointers prs ≡ pointers-at 8 21 bs
+  prs-read b =
+      let x = eight-pointers prs in
+      let y = eight-read bs in
+      sym (take-all k (as-pointers prs) (omega arith)) ∙ e ∙ take-all k (pointers-at 8 21 bs) (omega arith)
 
 pub registers-read : (bs : List ℕ) (a b l : ℕ) (p : Pointer) (ps : List Pointer) → a ≡ number-at 2 8 bs → b ≡ number-at 10 4 bs → l ≡ number-at 14 2 bs →
     p ≡ pointer-at 16 bs → ps ≡ pointers-at 8 21 bs →
@@ -22,4 +52,4 @@ pub registers-read : (bs : List ℕ) (a b l : ℕ) (p : Pointer) (ps : List Poin
 unfolding registers-at
 registers-read bs a b l p ps e f g h i = rw (e, f, g, h, i)
 
-pub ruleset registers-in = (pointer-read, prs-read, registers-read)
+pub ruleset registers-in = (pointer-read, one-more-read, prs-read, registers-read)

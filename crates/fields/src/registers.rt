@@ -1,9 +1,9 @@
 // The registers in an ST record: A, DBR, then IPR and PR0 to PR7 as RING, SEGNO and WORDNO.
 ghost use mathlib.Core.Path.{_≡_};
-ghost use mathlib.Core.List.{map};
 ghost use Prim.Native.Nat.{_+_, _≤_};
 ghost use lib.ListN.{length};
 ghost use Rattle.model.specs.Image.{pointer-at, pointers-at, registers-at};
+ghost use Rattle.segments.specs.View.{as-pointers};
 ghost use Rattle.host.specs.Record.{pointer-of, registers-of};
 use crate::number::number_1;
 use crate::number::number_2;
@@ -24,20 +24,18 @@ pub fn pointer_at(bytes: &[u8], at: usize) -> Pointer
     }
 }
 
-pub fn prs_at(bytes: &[u8]) -> [Pointer; 8]
+pub fn prs_at(bytes: &[u8]) -> [u16; 24]
     requires { ⌜ 61 ≤ length (now bytes) ⌝ }
-    ensures { λ prs. ⌜ map pointer-of prs ≡ pointers-at 8 21 (now (bytes .entry)) ⌝ }
+    ensures { λ prs. ⌜ as-pointers prs ≡ pointers-at 8 21 (now (bytes .entry)) ⌝ }
 {
-    [
-        pointer_at(bytes, 21),
-        pointer_at(bytes, 26),
-        pointer_at(bytes, 31),
-        pointer_at(bytes, 36),
-        pointer_at(bytes, 41),
-        pointer_at(bytes, 46),
-        pointer_at(bytes, 51),
-        pointer_at(bytes, 56),
-    ]
+    let mut prs: [u16; 24] = [0; 24];
+    let mut k: usize = 0;
+    while k < 8 {
+        let p = pointer_at(bytes, 21 + 5 * k);
+        segments::prs::set_pr(&mut prs, k, host::record::to_core(p));
+        k += 1;
+    }
+    prs
 }
 
 pub fn registers_at(bytes: &[u8]) -> Registers

@@ -5,8 +5,14 @@ use Prim.Native.Nat.{ℕ}
 use Rattle.model.specs.Answers.{Numbers, reply-numbers, step-numbers}
 use Rattle.model.specs.Run.{run, single-step}
 use Rattle.host.specs.Record.{pointer-of, registers-of, machine-of}
+use Rattle.host.specs.declared.record.DescriptorBase.{DescriptorBase}
+use Rattle.host.specs.declared.record.Pointer.{Pointer}
 use Rattle.host.specs.declared.record.Registers.{Registers}
 use Rattle.kuzhlemor.specs.declared.Answer.{Answer}
+
+-- a record by its parts
+abbrev pub together : (a : ℕ) → DescriptorBase → Pointer → (prs : List ℕ) → Registers
+together a dbr ipr prs = record { a = a; dbr = dbr; ipr = ipr; prs = prs }
 
 abbrev pub as-numbers : Answer → Numbers
 as-numbers a = record { kind = a .kind; number = a .number; count = a .count; pointer = pointer-of (a .pointer) }

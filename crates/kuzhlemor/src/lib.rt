@@ -1,13 +1,10 @@
 // The C library: a run and a step over a register record and a memory that the host lends, and an image run whole.
 ghost use mathlib.Core.Path.{_≡_};
-ghost use Rattle.model.specs.Answers as Answers;
-ghost use Rattle.model.specs.Registers as Model;
-ghost use Rattle.run.specs.Run.{as-reply, Reply-within};
 ghost use Rattle.model.specs.Bench as Bench;
-ghost use Rattle.kuzhlemor.specs.Entry.{as-numbers, Run-says, Step-says};
+ghost use Rattle.kuzhlemor.specs.Entry.{together, Run-says, Step-says};
+use host::record::DescriptorBase;
 use host::record::Pointer;
 use host::record::Registers;
-use run::Reply;
 
 // An answer as numbers. Kinds: 0 refused, 1 spent or completed, 2 halted, 3 fault; what a kind leaves free is 0.
 #[repr(C)]
@@ -18,74 +15,54 @@ pub struct Answer {
     pub pointer: Pointer,
 }
 
+// An answer, and the record's fields beside its array.
 pub struct Answered {
     pub answer: Answer,
-    pub registers: Registers,
+    pub a: u64,
+    pub dbr: DescriptorBase,
+    pub ipr: Pointer,
 }
 
-fn answer_without_pointer(kind: u32, number: u32, count: u32) -> Answer
-    ensures { λ x. ⌜ as-numbers x ≡ Answers.numbers kind number count Model.zero-pointer ⌝ }
+// A run on the parts of a record: its PRs are lent, the rest comes and goes by value.
+pub fn run_fields(
+    prs: &mut [u16; 24],
+    memory: &mut [u64],
+    a: u64,
+    dbr: DescriptorBase,
+    ipr: Pointer,
+    budget: u32,
+) -> Answered
+    ensures { λ x. ⌜ Run-says budget (together a dbr ipr (now (prs .entry))) (now (memory .entry)) (x .answer) (together (x .a) (x .dbr) (x .ipr) (now (prs .exit))) (now (memory .exit)) ⌝ }
 {
-    Answer {
-        kind,
-        number,
-        count,
-        pointer: Pointer {
-            ring: 0,
-            segment: 0,
-            word: 0,
-        },
-    }
-}
-
-fn run_answer(reply: Reply) -> Answer
-    requires { ⌜ Reply-within reply ⌝ }
-    ensures { λ x. ⌜ as-numbers x ≡ Answers.reply-numbers (as-reply reply) ⌝ }
-{
-    match reply {
-        Reply::Refused(n) => answer_without_pointer(0, n as u32, 0),
-        Reply::Spent(count) => answer_without_pointer(1, 0, count),
-        Reply::Halted(count) => answer_without_pointer(2, 0, count),
-        Reply::Fault(n, count, t) => Answer {
-            kind: 3,
-            number: n as u32,
-            count,
-            pointer: host::record::from_core(t),
-        },
-    }
-}
-
-pub fn run_answered(registers: Registers, memory: &mut [u64], budget: u32) -> Answered
-    ensures { λ x. ⌜ Run-says budget registers (now (memory .entry)) (x .answer) (x .registers) (now (memory .exit)) ⌝ }
-{
-    let x = machine::run(registers, memory, budget);
-    let after = x.registers;
-    let reply = x.reply;
+    let base = host::record::to_base(dbr);
+    let at = host::record::to_core(ipr);
+    let mut none: [u64; 0] = [];
+    let x = machine::run(
+        a,
+        base.address,
+        base.length,
+        at.ring,
+        at.segment.0,
+        at.word.0,
+        prs,
+        memory,
+        budget,
+        &mut none,
+    );
     Answered {
-        answer: run_answer(reply),
-        registers: after,
+        answer: Answer {
+            kind: x.kind as u32,
+            number: x.number as u32,
+            count: x.count as u32,
+            pointer: host::record::from_core(x.pointer),
+        },
+        a: x.core.a,
+        dbr: host::record::from_base(x.core.dbr),
+        ipr: host::record::from_core(x.core.ipr),
     }
 }
 
-// A single step answers as a run of that one step does.
-pub fn step_answered(registers: Registers, memory: &mut [u64]) -> Answered
-    ensures { λ x. ⌜ Step-says registers (now (memory .entry)) (x .answer) (x .registers) (now (memory .exit)) ⌝ }
-{
-    run_answered(registers, memory, 1)
-}
-
-// One step on the host's own record: read whole, stepped, and stored whole.
-#[no_mangle]
-pub extern "C" fn kuzhlemor_step(registers: &mut Registers, memory: &mut [u64]) -> Answer
-    ensures { λ r. ⌜ Step-says (now (registers .entry)) (now (memory .entry)) r (now (registers .exit)) (now (memory .exit)) ⌝ }
-{
-    let now = *registers;
-    let next = step_answered(now, memory);
-    *registers = next.registers;
-    next.answer
-}
-
-// A run on the host's own record.
+// A run on the host's own record: its array is lent on in place, the other fields are read before the run and stored after it.
 #[no_mangle]
 pub extern "C" fn kuzhlemor_run(
     registers: &mut Registers,
@@ -94,10 +71,22 @@ pub extern "C" fn kuzhlemor_run(
 ) -> Answer
     ensures { λ r. ⌜ Run-says budget (now (registers .entry)) (now (memory .entry)) r (now (registers .exit)) (now (memory .exit)) ⌝ }
 {
-    let now = *registers;
-    let next = run_answered(now, memory, budget);
-    *registers = next.registers;
-    next.answer
+    let a = registers.a;
+    let dbr = registers.dbr;
+    let ipr = registers.ipr;
+    let x = run_fields(&mut registers.prs, memory, a, dbr, ipr, budget);
+    registers.a = x.a;
+    registers.dbr = x.dbr;
+    registers.ipr = x.ipr;
+    x.answer
+}
+
+// A single step on the host's own record: it answers as a run of that one step does.
+#[no_mangle]
+pub extern "C" fn kuzhlemor_step(registers: &mut Registers, memory: &mut [u64]) -> Answer
+    ensures { λ r. ⌜ Step-says (now (registers .entry)) (now (memory .entry)) r (now (registers .exit)) (now (memory .exit)) ⌝ }
+{
+    kuzhlemor_run(registers, memory, 1)
 }
 
 // An image and a text buffer, both as bytes, for the image's listing: the question's number negated, or the text's length.

@@ -24,4 +24,8 @@ module _ (a i : ℕ) (bs t u : List ℕ) where
   pub every-byte-put : length bs ≤ i → u ≡ placed a (take i bs) t → u ≡ placed a bs t
   every-byte-put l p = p ∙ ap (λ xs. placed a xs t) (take-all i bs l)
 
+-- the ninth of ten, after eight
+pub ninth-byte-put : (a : ℕ) (bs t u : List ℕ) → length bs ≡ 10 → a + 10 ≤ length t → u ≡ placed a (take 8 bs) t → set u (a + 8) (getD bs 8 0) ≡ placed a (take 9 bs) t
+ninth-byte-put a bs t u n h p = byte-put a 8 bs t u (omega arith) (omega arith) p
+
 pub ruleset bytes-laws = (no-byte-put, byte-put, every-byte-put)

@@ -14,7 +14,7 @@ use Rattle.run.specs.declared.Reply.{Reply}
 use Rattle.run.specs.declared.Reply.the-variants.{Fault}
 use Rattle.text.specs.Text.{placed}
 use Rattle.text.proofs.TextLaws.{length-placed, next-after, put-after}
-use Rattle.lines.proofs.LineLaws.{ended, next-after-step-line, step-line-put-in}
+use Rattle.lines.proofs.LineLaws.{ended, words, next-after-step-line, step-line-put-in}
 
 -- a name and a number
 module _ (a b c v y : ℕ) (name t u w : List ℕ) where
@@ -28,12 +28,11 @@ module _ (a b c v y : ℕ) (name t u w : List ℕ) where
 pub ruleset named-laws = (next-after-named, named-put)
 
 -- a fault's line: its number, and a step's line after it
-module _ (f n r s w a b c d e g : ℕ) (name t₀ t₁ t₂ t₃ t₄ t₅ : List ℕ) (is-fault : name ≡ ascii "fault" ++ ascii " ")
+module _ (f n r s w a b c d : ℕ) (name t₀ t₁ t₂ t₃ : List ℕ) (is-fault : name ≡ ascii "fault" ++ ascii " ")
     (p₁ : t₁ ≡ placed a (name ++ ended f 32) t₀) (q₁ : b ≡ a + length (name ++ ended f 32)) (l₁ : b ≤ a + 19)
     (p₂ : t₂ ≡ placed b (ended n 32) t₁) (q₂ : c ≡ b + length (ended n 32)) (l₂ : c ≤ b + 11)
-    (p₃ : t₃ ≡ placed c (ended r 32) t₂) (q₃ : d ≡ c + length (ended r 32)) (l₃ : d ≤ c + 2)
-    (p₄ : t₄ ≡ placed d (ended s 32) t₃) (q₄ : e ≡ d + length (ended s 32)) (l₄ : e ≤ d + 11)
-    (p₅ : t₅ ≡ placed e (ended w 10) t₄) (q₅ : g ≡ e + length (ended w 10)) (l₅ : g ≤ e + 11) where
+    (p₃ : t₃ ≡ placed c (words r s w) t₂) (q₃ : d ≡ c + length (words r s w))
+    (l₃ : d ≤ c + 24) where
   abbrev p : Words.Pointer
   p = record { ring = r; segment = s; word = w }
 
@@ -41,17 +40,17 @@ module _ (f n r s w a b c d e g : ℕ) (name t₀ t₁ t₂ t₃ t₄ t₅ : Lis
   unfolding last-line step-line line ascii
   as-line = append-assoc name (ended f 32) (step-line n p) ∙ ap (λ xs. xs ++ (ended f 32 ++ step-line n p)) is-fault
 
-  after-step-line : g ≡ b + length (step-line n p)
-  after-step-line = next-after-step-line n r s w b c d e g t₁ t₂ t₃ t₄ t₅ p₂ q₂ l₂ p₃ q₃ l₃ p₄ q₄ l₄ p₅ q₅ l₅
+  after-step-line : d ≡ b + length (step-line n p)
+  after-step-line = next-after-step-line n r s w b c d q₂ q₃
 
-  pub next-after-fault-line : g ≡ a + length (last-line (Run.Reply.fault f n (record { ring = r; segment = s; word = w })))
-  next-after-fault-line = next-after a b g (name ++ ended f 32) (step-line n p) q₁ after-step-line ∙ ap (λ xs. a + length xs) as-line
+  pub next-after-fault-line : d ≡ a + length (last-line (Run.Reply.fault f n (record { ring = r; segment = s; word = w })))
+  next-after-fault-line = next-after a b d (name ++ ended f 32) (step-line n p) q₁ after-step-line ∙ ap (λ xs. a + length xs) as-line
 
-  pub fault-line-put : a + 64 ≤ length t₀ → t₅ ≡ placed a (last-line (Run.Reply.fault f n (record { ring = r; segment = s; word = w }))) t₀
+  pub fault-line-put : a + 64 ≤ length t₀ → t₃ ≡ placed a (last-line (Run.Reply.fault f n (record { ring = r; segment = s; word = w }))) t₀
   fault-line-put h =
       let z : length t₁ ≡ length t₀ = ap length p₁ ∙ length-placed a (name ++ ended f 32) t₀ (omega arith) in
-      put-after a b g (name ++ ended f 32) (step-line n p) t₀ t₁ t₅ p₁ q₁
-      (step-line-put-in n r s w b c d e g t₁ t₂ t₃ t₄ t₅ p₂ q₂ l₂ p₃ q₃ l₃ p₄ q₄ l₄ p₅ q₅ l₅ (omega arith))
+      put-after a b d (name ++ ended f 32) (step-line n p) t₀ t₁ t₃ p₁ q₁
+      (step-line-put-in n r s w b c d q₂ q₃ t₁ t₂ t₃ p₂ p₃ (omega arith))
       after-step-line (omega arith)
       ∙ ap (λ xs. placed a xs t₀) as-line
 

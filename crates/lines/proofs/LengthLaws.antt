@@ -1,13 +1,13 @@
 -- No line of numbers that the code holds is longer than 64 bytes. Assumes nothing.
-use mathlib.Core.List.{List, [], _∷_, _++_}
-use Prim.Native.Nat.{ℕ, suc, _+_, _^_, _≤_, _<_}
+use mathlib.Core.List.{[], _∷_}
+use Prim.Native.Nat.{ℕ, suc, _^_, _≤_, _<_}
 use native.Mathlib.Omega.{arith}
 use lib.ListN.{length, length-append}
 use Rattle.model.specs.Words.{Pointer}
 use Rattle.model.specs.Run.{Reply, refused, spent, halted, fault}
 use Rattle.model.specs.Listing.{ascii, decimal, line, step-line, last-line}
 use Rattle.text.proofs.DecimalLaws.{length-decimal-most}
-use Rattle.lines.proofs.LineLaws.{ended}
+use Rattle.lines.proofs.LineLaws.{ended, length-of-step-line}
 
 -- what the code's types and `Pointer-within` say of a pointer, and of a reply's numbers
 pub record Small-pointer (p : Pointer) : Type 0 where
@@ -26,19 +26,14 @@ length-ended : (k v y : ℕ) → v < 10 ^ suc k → length (ended v y) ≤ suc (
 length-ended k v y h = omega (arith, length-append (decimal v) (y ∷ []), length-decimal-most k v h)
 
 step-line-within : (n : ℕ) (p : Pointer) → n < 4294967296 → Small-pointer p → length (step-line n p) ≤ 24
-unfolding step-line line ascii
 step-line-within n p h s =
-    let r₁ : List ℕ = ended (p .segment) 32 ++ ended (p .word) 10 in
-    let r₂ : List ℕ = ended (p .ring) 32 ++ r₁ in
     omega (
       arith,
-      length-append (ended n 32) r₂,
-      length-append (ended (p .ring) 32) r₁,
-      length-append (ended (p .segment) 32) (ended (p .word) 10),
-      length-ended 9 n 32 (omega arith),
-      length-ended 0 (p .ring) 32 (omega arith),
-      length-ended 3 (p .segment) 32 (omega arith),
-      length-ended 4 (p .word) 10 (omega arith),
+      length-of-step-line n p,
+      length-decimal-most 9 n (omega arith),
+      length-decimal-most 0 (p .ring) (omega arith),
+      length-decimal-most 3 (p .segment) (omega arith),
+      length-decimal-most 4 (p .word) (omega arith),
     )
 
 pub length-step-line : (n : ℕ) (p : Pointer) → n < 4294967296 → Small-pointer p → length (step-line n p) ≤ 64

@@ -1,15 +1,23 @@
 // The lines of a listing.
 ghost use mathlib.Core.Path.{_≡_};
 ghost use mathlib.Core.List.{[], _∷_, _++_};
-ghost use Prim.Native.Nat.{_≤_, _+_};
-ghost use lib.ListN.{length};
-ghost use Rattle.model.specs.Listing.{decimal, step-line, last-line};
+ghost use Prim.Native.Nat.{_≤_, _<_, _+_};
+ghost use lib.ListN.{length, take};
+ghost use Rattle.model.specs.Listing.{decimal, line, step-line, last-line};
 ghost use Rattle.model.specs.Run.{fault};
 ghost use Rattle.words.specs.View.{as-pointer, Pointer-within};
 ghost use Rattle.run.specs.Run.{as-reply, Reply-within};
 ghost use Rattle.text.specs.Text.{placed, Put};
+ghost use Rattle.lines.specs.Kept.{Kept};
 use run::Reply;
 use words::pointer::Pointer;
+
+// A step's number, its last digit, and how many digits stand before that.
+pub struct Number {
+    pub value: u32,
+    pub ones: u64,
+    pub width: usize,
+}
 
 // A number, and the byte that ends it.
 fn put_number(text: &mut [u8], at: usize, v: u32, after: u8) -> usize
@@ -31,15 +39,30 @@ fn put_digit(text: &mut [u8], at: usize, v: u64, after: u8) -> usize
     at + 2
 }
 
-// A completed step's number, and IPR after it.
-pub fn put_step_line(text: &mut [u8], at: usize, number: u32, p: Pointer) -> usize
-    requires { ⌜ (at + 64 ≤ length (now text)) × Pointer-within p ⌝ }
-    ensures { λ r. ⌜ Put 64 at (step-line number (as-pointer p)) (now (text .entry)) (now (text .exit)) r ⌝ }
+// A number of a pointer, and the byte that ends it. Most have one digit or two, which are put directly.
+fn put_short(text: &mut [u8], at: usize, v: u64, after: u8) -> usize
+    requires { ⌜ (at + 11 ≤ length (now text)) × (v < 65536) ⌝ }
+    ensures { λ r. ⌜ Put 11 at (decimal v ++ after ∷ []) (now (text .entry)) (now (text .exit)) r ⌝ }
 {
-    let at_ring = put_number(text, at, number, 32);
-    let at_segment = put_digit(text, at_ring, p.ring, 32);
-    let at_word = put_number(text, at_segment, p.segment.0 as u32, 32);
-    put_number(text, at_word, p.word.0 as u32, 10)
+    if v < 10 {
+        return put_digit(text, at, v, after);
+    }
+    if v < 100 {
+        let end = put_digit(text, at, v / 10, (48 + v % 10) as u8);
+        text[end] = after;
+        return end + 1;
+    }
+    put_number(text, at, v as u32, after)
+}
+
+// A pointer, with which a line ends.
+fn put_pointer(text: &mut [u8], at: usize, ring: u64, segment: u64, word: u64) -> usize
+    requires { ⌜ (at + 24 ≤ length (now text)) × (ring ≤ 7) × (segment ≤ 4095) × (word < 65536) ⌝ }
+    ensures { λ r. ⌜ Put 24 at (line (decimal ring ∷ decimal segment ∷ decimal word ∷ [])) (now (text .entry)) (now (text .exit)) r ⌝ }
+{
+    let at_segment = put_digit(text, at, ring, 32);
+    let at_word = put_short(text, at_segment, segment, 32);
+    put_short(text, at_word, word, 10)
 }
 
 // Bytes as they are.
@@ -55,6 +78,74 @@ fn put_bytes(text: &mut [u8], at: usize, bytes: &[u8]) -> usize
     at + i
 }
 
+// A step's number, and into `tens` its digits without the last.
+pub fn number_of(tens: &mut [u8; 10], value: u32) -> Number
+    ensures { λ n. ⌜ Kept (now (tens .exit)) n × (n .value ≡ value) ⌝ }
+{
+    if value < 10 {
+        return Number {
+            value,
+            ones: value as u64,
+            width: 0,
+        };
+    }
+    let width = text::put_decimal(tens, 0, value / 10);
+    Number {
+        value,
+        ones: (value % 10) as u64,
+        width,
+    }
+}
+
+// The next number: nine of ten times only its last digit changes.
+pub fn next(tens: &mut [u8; 10], n: Number) -> Number
+    requires { ⌜ Kept (now tens) n × (n .value < 4294967295) ⌝ }
+    ensures { λ m. ⌜ Kept (now (tens .exit)) m × (m .value ≡ n .value + 1) ⌝ }
+{
+    let value = n.value + 1;
+    if n.ones < 9 {
+        return Number {
+            value,
+            ones: n.ones + 1,
+            width: n.width,
+        };
+    }
+    number_of(tens, value)
+}
+
+// The digits of a number without the last, and up to eight bytes more: eight at once are put sooner than some of them, and
+// the rest of the line, at least eight bytes, covers those too many. The answer is how many are put.
+fn put_tens(text: &mut [u8], at: usize, tens: &[u8; 10], width: usize) -> usize
+    requires { ⌜ (at + 10 ≤ length (now text)) × (width ≤ 9) ⌝ }
+    ensures { λ r. ⌜ (now (text .exit) ≡ placed at (take r (now (tens .entry))) (now (text .entry))) × (width ≤ r) × (r ≤ width + 8) × (r ≤ length (now (tens .entry))) ⌝ }
+{
+    let digits: &[u8] = tens;
+    put_bytes(text, at, &digits[0..8]);
+    if 8 < width {
+        text[at + 8] = tens[8];
+        return 9;
+    }
+    8
+}
+
+// A step's line from the last digit of its number on, which is the line of a step of that number.
+fn put_last_digit(text: &mut [u8], at: usize, ones: u64, p: Pointer) -> usize
+    requires { ⌜ (at + 26 ≤ length (now text)) × (ones ≤ 9) × Pointer-within p ⌝ }
+    ensures { λ r. ⌜ Put 26 at (step-line ones (as-pointer p)) (now (text .entry)) (now (text .exit)) r ⌝ }
+{
+    let at_ring = put_digit(text, at, ones, 32);
+    put_pointer(text, at_ring, p.ring, p.segment.0, p.word.0)
+}
+
+// A completed step's number, and IPR after it.
+pub fn put_step_line(text: &mut [u8], at: usize, tens: &[u8; 10], n: Number, p: Pointer) -> usize
+    requires { ⌜ (at + 64 ≤ length (now text)) × Kept (now tens) n × Pointer-within p ⌝ }
+    ensures { λ r. ⌜ Put 64 at (step-line (n .value) (as-pointer p)) (now (text .entry)) (now (text .exit)) r ⌝ }
+{
+    put_tens(text, at, tens, n.width);
+    put_last_digit(text, at + n.width, n.ones, p)
+}
+
 // A name with a space after it, a number, and the byte that ends it.
 fn put_named(text: &mut [u8], at: usize, name: &[u8], v: u32, after: u8) -> usize
     requires { ⌜ (at + 19 ≤ length (now text)) × (length (now name) ≤ 8) ⌝ }
@@ -65,16 +156,13 @@ fn put_named(text: &mut [u8], at: usize, name: &[u8], v: u32, after: u8) -> usiz
 }
 
 // A fault's number, the count of completed steps, and the pointer that faulted.
-// It doesn't call `put_step_line`, so that this has one caller and the compiler merges it into the loop over a trace.
 fn put_fault_line(text: &mut [u8], at: usize, n: u8, count: u32, t: Pointer) -> usize
     requires { ⌜ (at + 64 ≤ length (now text)) × Pointer-within t ⌝ }
     ensures { λ r. ⌜ Put 64 at (last-line (fault n count (as-pointer t))) (now (text .entry)) (now (text .exit)) r ⌝ }
 {
     let at_count = put_named(text, at, b"fault ", n as u32, 32);
     let at_ring = put_number(text, at_count, count, 32);
-    let at_segment = put_digit(text, at_ring, t.ring, 32);
-    let at_word = put_number(text, at_segment, t.segment.0 as u32, 32);
-    put_number(text, at_word, t.word.0 as u32, 10)
+    put_pointer(text, at_ring, t.ring, t.segment.0, t.word.0)
 }
 
 // The reply of a run, which ends its listing.

@@ -32,7 +32,7 @@ pub struct Listed {
 // The lines of a run that goes on after `count` steps, until it ends or the text is full.
 pub fn list(
     core: Core,
-    prs: &mut [u64; 8],
+    prs: &mut [u16; 24],
     memory: &mut [u64],
     count: u32,
     budget: u32,
@@ -80,7 +80,7 @@ pub fn list(
 // A whole listing, where the text has 64 bytes for each of its lines; how long it is.
 pub fn list_whole(
     core: Core,
-    prs: [u64; 8],
+    prs: [u16; 24],
     memory: &mut [u64],
     budget: u32,
     text: &mut [u8],

@@ -1,2 +1,3 @@
 -- Laws of this crate. Assumes nothing.
-pub mod ByValueLaws
+pub mod AnswerLaws
+pub mod AskLaws

@@ -1,2 +1,2 @@
--- What the values of this crate stand for. Assumes nothing: these are definitions.
-pub mod ByValue
+-- What a run answers a host. Assumes nothing: these are definitions.
+pub mod Answered

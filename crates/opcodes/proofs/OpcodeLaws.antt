@@ -1,162 +1,119 @@
--- The table's rule, by one test over all of its entries, and the arms of a read's result. Assumes nothing.
-use mathlib.Core.Path.{_≡_, refl, sym, _∙_, ap, subst}
-use mathlib.Core.Bool.{Bool, true, _&&_, cond}
-use mathlib.Core.List.{List, [], _∷_}
-use Prim.Native.Nat.{ℕ, zero, suc, _+_, _*_, _-_, _%_, _<_}
-use native.Mathlib.Nat.{add-zero, zero-add, add-suc, suc-add, le-of-suc-le-suc, not-suc-le-zero}
+-- The table's rule, by one test over all of its numbers, and the arms of a read's result. Assumes nothing.
+use mathlib.Core.Path.{_≡_, refl, sym, _∙_, subst}
+use mathlib.Core.Bool.{Bool, true, false, _&&_, not}
+use Prim.Native.Nat.{ℕ, zero, suc, _+_, _*_, _-_, _%_, _≤_, _<_}
 use native.Mathlib.Omega.{arith}
 use lib.Dec.{leb, eqb}
-use lib.ListN.{length, getD}
-use borrow.Author.Tests.{eqb-true, ne-eqb}
-use Rattle.model.specs.Opcodes.{sum, difference, bitwise, count-of-ones}
+use borrow.Author.Tests.{eqb-true, eqb-false, ne-eqb}
+use Rattle.model.specs.Words.{field, on}
+use Rattle.model.specs.Opcodes.{Opcode, sum, difference, bitwise, count-of-ones, decoded}
 use Rattle.model.proofs.BranchLaws.{and-left, and-right}
 use Rattle.model.proofs.Computing.{by-computation}
-use Rattle.model.proofs.TableLaws.{Each, Outside, outside-not-decoded, each-number}
-use Rattle.opcodes.specs.declared.table.Kind.{Kind}
-use Rattle.opcodes.specs.declared.table.Kind.the-variants.{Unknown, Read, Write, Update, Literal, Address, Pointer, Transfer, Call, Return, Dbr, Halt}
-use Rattle.opcodes.specs.Table.{result, taken, entry-of, Told, kind-numbered, Right-table}
+use Rattle.model.proofs.TableLaws.{Outside, outside-not-decoded}
+use Rattle.opcodes.specs.Table.{result, taken, of-entry, reads-word, writes-word, moves-control, Told}
 
--- WHAT THE TABLE SHOULD SAY of each number
-unfoldable pub kind-for : (opcode : ℕ) → Kind
-kind-for n =
-    cond (eqb n 1) Read
-    (cond (eqb n 2) Write
-    (cond (eqb n 3) Read
-    (cond (eqb n 4) Read
-    (cond (eqb n 5) Read
-    (cond (eqb n 6) Read
-    (cond (eqb n 7) Read
-    (cond (eqb n 8) Read
-    (cond (eqb n 9) Update
-    (cond (eqb n 10) Literal
-    (cond (eqb n 16) Address
-    (cond (eqb n 17) Pointer
-    (cond (eqb n 24) Transfer
-    (cond (eqb n 25) Transfer
-    (cond (eqb n 26) Transfer
-    (cond (eqb n 32) Call
-    (cond (eqb n 33) Return
-    (cond (eqb n 40) Dbr
-    (cond (eqb n 41) Halt Unknown))))))))))))))))))
+-- THE RULE OF A COLUMN over all numbers below n
+same : (a b : Bool) → Bool
+same true b = b
+same false b = not b
 
-kind-for-told : Each (λ o. Told (o .number) (kind-for (o .number)))
-unfolding Told kind-for entry-of result taken by-computation
-kind-for-told =
+same-true : (a b : Bool) → same a b ≡ true → a ≡ b
+unfolding same
+same-true true true e = refl
+same-true true false e = sym e
+same-true false true e = e
+same-true false false e = refl
+
+right-below : (n column : ℕ) → (Opcode → Bool) → Bool
+right-below zero c f = true
+right-below (suc n) c f = same (on n c) (of-entry f (decoded n)) && right-below n c f
+
+-- of the last number, or of one before it
+on-last : (P : ℕ → Type 0) (n k : ℕ) → P n → (k < n → P k) → k < suc n → P k
+on-last P n k here before h = by-test (eqb k n) refl
+  where
+    by-test : (b : Bool) → eqb k n ≡ b → P k
+    by-test true e = subst P (sym (eqb-true k n e)) here
+    by-test false e = before (let ne = eqb-false k n e in omega arith)
+
+column-right : (n c : ℕ) (f : Opcode → Bool) → right-below n c f ≡ true → (k : ℕ) → k < n → on k c ≡ of-entry f (decoded k)
+unfolding right-below
+column-right zero c f e k h = absurd (omega arith)
+column-right (suc n) c f e k h =
+    on-last (λ z. on z c ≡ of-entry f (decoded z)) n k (same-true _ _ (and-left _ (right-below n c f) e))
+    (column-right n c f (and-right (same (on n c) (of-entry f (decoded n))) _ e) k) h
+
+-- the five columns
+abbrev Right : (column : ℕ) → (Opcode → Bool) → Type 0
+Right c f = (k : ℕ) → k < 64 → on k c ≡ of-entry f (decoded k)
+
+operands : Right 1112514167806 (λ o. o .operand)
+unfolding right-below same of-entry on field by-computation
+operands = column-right 64 1112514167806 (λ o. o .operand) refl
+
+privileges : Right 3298534883328 (λ o. o .privileged)
+unfolding right-below same of-entry on field by-computation
+privileges = column-right 64 3298534883328 (λ o. o .privileged) refl
+
+readers : Right 1099511628794 (λ o. reads-word (o .access))
+unfolding right-below same of-entry on field by-computation
+readers = column-right 64 1099511628794 (λ o. reads-word (o .access)) refl
+
+writers : Right 131588 (λ o. writes-word (o .access))
+unfolding right-below same of-entry on field by-computation
+writers = column-right 64 131588 (λ o. writes-word (o .access)) refl
+
+movers : Right 13002342400 (λ o. moves-control (o .access))
+unfolding right-below same of-entry on field by-computation
+movers = column-right 64 13002342400 (λ o. moves-control (o .access)) refl
+
+pub entry-law : (k : ℕ) (a b c d e : Bool) → k < 64 → a ≡ on k 1112514167806 → b ≡ on k 3298534883328 → c ≡ on k 1099511628794 → d ≡ on k 131588 → e ≡ on k 13002342400 →
+    Told k (record { operand = a; privileged = b; reads = c; writes = d; moves = e })
+entry-law k a b c d e h i j l m n =
     record {
-      lda = refl;
-      sta = refl;
-      ada = refl;
-      sba = refl;
-      ana = refl;
-      ora = refl;
-      xra = refl;
-      cnt = refl;
-      aos = refl;
-      ldi = refl;
-      eap = refl;
-      spp = refl;
-      tra = refl;
-      tze = refl;
-      tmi = refl;
-      call = refl;
-      return = refl;
-      ldbr = refl;
-      hlt = refl;
+      operand-same = i ∙ operands k h;
+      privilege-same = j ∙ privileges k h;
+      reads-same = l ∙ readers k h;
+      writes-same = m ∙ writers k h;
+      moves-same = n ∙ movers k h;
     }
 
-kind-for-outside : (n : ℕ) → Outside n → kind-for n ≡ Unknown
-unfolding kind-for by-computation
-kind-for-outside n out =
-    rw (
-      ne-eqb n 1 (out .lda),
-      ne-eqb n 2 (out .sta),
-      ne-eqb n 3 (out .ada),
-      ne-eqb n 4 (out .sba),
-      ne-eqb n 5 (out .ana),
-      ne-eqb n 6 (out .ora),
-      ne-eqb n 7 (out .xra),
-      ne-eqb n 8 (out .cnt),
-      ne-eqb n 9 (out .aos),
-      ne-eqb n 10 (out .ldi),
-      ne-eqb n 16 (out .eap),
-      ne-eqb n 17 (out .spp),
-      ne-eqb n 24 (out .tra),
-      ne-eqb n 25 (out .tze),
-      ne-eqb n 26 (out .tmi),
-      ne-eqb n 32 (out .call),
-      ne-eqb n 33 (out .return),
-      ne-eqb n 40 (out .ldbr),
-      ne-eqb n 41 (out .hlt),
-    ) refl
+apart : (k n : ℕ) → 64 ≤ k → n < 64 → k ≡ n → ⊥
+apart k n h l e = absurd (omega arith)
 
-kind-for-is-told : (n : ℕ) → Told n (kind-for n)
-kind-for-is-told =
-    each-number (λ n. Told n (kind-for n)) kind-for-told
-    (λ n out. subst (Told n) (sym (kind-for-outside n out)) (unfold Told entry-of in outside-not-decoded n out))
+outside : (k : ℕ) → 64 ≤ k → Outside k
+unfolding by-computation
+outside k h =
+    record {
+      lda = apart k 1 h (omega arith);
+      sta = apart k 2 h (omega arith);
+      ada = apart k 3 h (omega arith);
+      sba = apart k 4 h (omega arith);
+      ana = apart k 5 h (omega arith);
+      ora = apart k 6 h (omega arith);
+      xra = apart k 7 h (omega arith);
+      cnt = apart k 8 h (omega arith);
+      aos = apart k 9 h (omega arith);
+      ldi = apart k 10 h (omega arith);
+      eap = apart k 16 h (omega arith);
+      spp = apart k 17 h (omega arith);
+      tra = apart k 24 h (omega arith);
+      tze = apart k 25 h (omega arith);
+      tmi = apart k 26 h (omega arith);
+      call = apart k 32 h (omega arith);
+      return = apart k 33 h (omega arith);
+      ldbr = apart k 40 h (omega arith);
+      hlt = apart k 41 h (omega arith);
+    }
 
--- THE TEST over a table, from entry i on: each number is that of the kind that should stand there
-unfoldable pub number-of : Kind → ℕ
-number-of Read = 0
-number-of Write = 1
-number-of Update = 2
-number-of Address = 3
-number-of Pointer = 4
-number-of Transfer = 5
-number-of Call = 6
-number-of Return = 7
-number-of Dbr = 8
-number-of Halt = 9
-number-of Literal = 10
-number-of Unknown = 11
+-- from 64 on there is none
+pub no-entry-law : (k : ℕ) → 64 ≤ k → Told k (record { operand = false; privileged = false; reads = false; writes = false; moves = false })
+unfolding of-entry by-computation
+no-entry-law k h =
+    let e = outside-not-decoded k (outside k h) in
+    record { operand-same = rw e; privilege-same = rw e; reads-same = rw e; writes-same = rw e; moves-same = rw e }
 
-numbered : (k : Kind) → kind-numbered (number-of k) ≡ k
-unfolding number-of kind-numbered
-numbered Read = refl
-numbered Write = refl
-numbered Update = refl
-numbered Address = refl
-numbered Pointer = refl
-numbered Transfer = refl
-numbered Call = refl
-numbered Return = refl
-numbered Dbr = refl
-numbered Halt = refl
-numbered Literal = refl
-numbered Unknown = refl
-
-unfoldable pub right-from : (i : ℕ) → List ℕ → Bool
-right-from i [] = true
-right-from i (n ∷ ns) = eqb n (number-of (kind-for i)) && right-from (suc i) ns
-
-told-from : (ns : List ℕ) (i j : ℕ) → right-from i ns ≡ true → j < length ns → Told (i + j) (kind-numbered (getD ns j 0))
-unfolding right-from
-told-from [] i j t h = absurd (not-suc-le-zero h)
-told-from (n ∷ ns) i zero t h =
-    subst (λ z. Told z (kind-numbered n)) (sym (add-zero i))
-    (subst (Told i) (sym (ap kind-numbered (eqb-true n _ (and-left _ (right-from (suc i) ns) t)) ∙ numbered (kind-for i))) (kind-for-is-told i))
-told-from (n ∷ ns) i (suc j) t h =
-    subst (λ z. Told z (kind-numbered (getD ns j 0))) (suc-add i j ∙ sym (add-suc i j))
-    (told-from ns (suc i) j (and-right (eqb n (number-of (kind-for i))) (right-from (suc i) ns) t) (le-of-suc-le-suc h))
-
-pub right-table : (ns : List ℕ) → right-from 0 ns ≡ true → length ns ≡ 256 → Right-table ns
-unfolding Right-table
-right-table ns t e o h = subst (λ z. Told z (kind-numbered (getD ns o 0))) (zero-add o) (told-from ns 0 o t (omega arith))
-
--- AN OPCODE LOOKED UP
-pub table-law : (ns : List ℕ) (o : ℕ) (k : Kind) → Right-table ns → o < 256 → k ≡ kind-numbered (getD ns o 0) → Told o k
-unfolding Right-table
-table-law ns o k right h e = subst (Told o) (sym e) (right o h)
-
--- A KIND BY ITS NUMBER, for each arm
-pub kind-at : (n i : ℕ) → n ≡ i → kind-numbered i ≡ kind-numbered n
-kind-at n i e = ap kind-numbered (sym e)
-
-pub no-kind-at : (n : ℕ) →
-    (n ≡ 0 → ⊥) → (n ≡ 1 → ⊥) → (n ≡ 2 → ⊥) → (n ≡ 3 → ⊥) → (n ≡ 4 → ⊥) → (n ≡ 5 → ⊥) → (n ≡ 6 → ⊥) → (n ≡ 7 → ⊥) → (n ≡ 8 → ⊥) → (n ≡ 9 → ⊥) → (n ≡ 10 → ⊥) →
-    Unknown ≡ kind-numbered n
-unfolding kind-numbered
-no-kind-at n a b c d e f g h i j k =
-    simp (ne-eqb n 0 a, ne-eqb n 1 b, ne-eqb n 2 c, ne-eqb n 3 d, ne-eqb n 4 e, ne-eqb n 5 f, ne-eqb n 6 g, ne-eqb n 7 h, ne-eqb n 8 i, ne-eqb n 9 j, ne-eqb n 10 k)
+pub ruleset entries = (entry-law, no-entry-law)
 
 -- A READ'S RESULT, for each arm
 module _ (o a w r : ℕ) where

@@ -1,3 +1,3 @@
-// What opcodes are: the table of their kinds, and A's operations, each equal to its definition in `model`.
+// What opcodes are: the table of their entries, and A's operations, each equal to its definition in `model`.
 pub mod arithmetic;
 pub mod table;

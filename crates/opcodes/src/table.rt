@@ -1,384 +1,54 @@
-// The constant table of the opcodes: each number's kind, which says its operand, its privilege and its access.
+// The constant table of the opcodes: each number's operand, privilege and accesses.
 ghost use mathlib.Core.Path.{_≡_};
-ghost use Rattle.opcodes.specs.Table.{Right-table, Told, kind-numbered, operand, result, taken};
+ghost use Prim.Native.Nat.{_<_};
+ghost use Rattle.model.specs.Words.{on};
+ghost use Rattle.opcodes.specs.Table.{Told};
 
-// The kinds that have an operand and no privilege come first: one comparison passes them all.
-pub enum Kind {
-    Read,
-    Write,
-    Update,
-    Address,
-    Pointer,
-    Transfer,
-    Call,
-    Return,
-    Dbr,
-    Halt,
-    Literal,
-    Unknown,
-}
-
-// A kind's number in the table.
-const READ: u8 = 0;
-
-const WRITE: u8 = 1;
-
-const UPDATE: u8 = 2;
-
-const ADDRESS: u8 = 3;
-
-const POINTER: u8 = 4;
-
-const TRANSFER: u8 = 5;
-
-const CALL: u8 = 6;
-
-const RETURN: u8 = 7;
-
-const DBR: u8 = 8;
-
-const HALT: u8 = 9;
-
-const LITERAL: u8 = 10;
-
-const UNKNOWN: u8 = 11;
-
-// An entry for each number that eight bits hold, so that decoding asks for no bound; from 42 on no opcode is known.
-const OPCODES: [u8; 256] = [
-    UNKNOWN,
-    READ,
-    WRITE,
-    READ,
-    READ,
-    READ,
-    READ,
-    READ,
-    READ,
-    UPDATE,
-    LITERAL,
-    UNKNOWN,
-    UNKNOWN,
-    UNKNOWN,
-    UNKNOWN,
-    UNKNOWN,
-    ADDRESS,
-    POINTER,
-    UNKNOWN,
-    UNKNOWN,
-    UNKNOWN,
-    UNKNOWN,
-    UNKNOWN,
-    UNKNOWN,
-    TRANSFER,
-    TRANSFER,
-    TRANSFER,
-    UNKNOWN,
-    UNKNOWN,
-    UNKNOWN,
-    UNKNOWN,
-    UNKNOWN,
-    CALL,
-    RETURN,
-    UNKNOWN,
-    UNKNOWN,
-    UNKNOWN,
-    UNKNOWN,
-    UNKNOWN,
-    UNKNOWN,
-    DBR,
-    HALT,
-    UNKNOWN,
-    UNKNOWN,
-    UNKNOWN,
-    UNKNOWN,
-    UNKNOWN,
-    UNKNOWN,
-    UNKNOWN,
-    UNKNOWN,
-    UNKNOWN,
-    UNKNOWN,
-    UNKNOWN,
-    UNKNOWN,
-    UNKNOWN,
-    UNKNOWN,
-    UNKNOWN,
-    UNKNOWN,
-    UNKNOWN,
-    UNKNOWN,
-    UNKNOWN,
-    UNKNOWN,
-    UNKNOWN,
-    UNKNOWN,
-    UNKNOWN,
-    UNKNOWN,
-    UNKNOWN,
-    UNKNOWN,
-    UNKNOWN,
-    UNKNOWN,
-    UNKNOWN,
-    UNKNOWN,
-    UNKNOWN,
-    UNKNOWN,
-    UNKNOWN,
-    UNKNOWN,
-    UNKNOWN,
-    UNKNOWN,
-    UNKNOWN,
-    UNKNOWN,
-    UNKNOWN,
-    UNKNOWN,
-    UNKNOWN,
-    UNKNOWN,
-    UNKNOWN,
-    UNKNOWN,
-    UNKNOWN,
-    UNKNOWN,
-    UNKNOWN,
-    UNKNOWN,
-    UNKNOWN,
-    UNKNOWN,
-    UNKNOWN,
-    UNKNOWN,
-    UNKNOWN,
-    UNKNOWN,
-    UNKNOWN,
-    UNKNOWN,
-    UNKNOWN,
-    UNKNOWN,
-    UNKNOWN,
-    UNKNOWN,
-    UNKNOWN,
-    UNKNOWN,
-    UNKNOWN,
-    UNKNOWN,
-    UNKNOWN,
-    UNKNOWN,
-    UNKNOWN,
-    UNKNOWN,
-    UNKNOWN,
-    UNKNOWN,
-    UNKNOWN,
-    UNKNOWN,
-    UNKNOWN,
-    UNKNOWN,
-    UNKNOWN,
-    UNKNOWN,
-    UNKNOWN,
-    UNKNOWN,
-    UNKNOWN,
-    UNKNOWN,
-    UNKNOWN,
-    UNKNOWN,
-    UNKNOWN,
-    UNKNOWN,
-    UNKNOWN,
-    UNKNOWN,
-    UNKNOWN,
-    UNKNOWN,
-    UNKNOWN,
-    UNKNOWN,
-    UNKNOWN,
-    UNKNOWN,
-    UNKNOWN,
-    UNKNOWN,
-    UNKNOWN,
-    UNKNOWN,
-    UNKNOWN,
-    UNKNOWN,
-    UNKNOWN,
-    UNKNOWN,
-    UNKNOWN,
-    UNKNOWN,
-    UNKNOWN,
-    UNKNOWN,
-    UNKNOWN,
-    UNKNOWN,
-    UNKNOWN,
-    UNKNOWN,
-    UNKNOWN,
-    UNKNOWN,
-    UNKNOWN,
-    UNKNOWN,
-    UNKNOWN,
-    UNKNOWN,
-    UNKNOWN,
-    UNKNOWN,
-    UNKNOWN,
-    UNKNOWN,
-    UNKNOWN,
-    UNKNOWN,
-    UNKNOWN,
-    UNKNOWN,
-    UNKNOWN,
-    UNKNOWN,
-    UNKNOWN,
-    UNKNOWN,
-    UNKNOWN,
-    UNKNOWN,
-    UNKNOWN,
-    UNKNOWN,
-    UNKNOWN,
-    UNKNOWN,
-    UNKNOWN,
-    UNKNOWN,
-    UNKNOWN,
-    UNKNOWN,
-    UNKNOWN,
-    UNKNOWN,
-    UNKNOWN,
-    UNKNOWN,
-    UNKNOWN,
-    UNKNOWN,
-    UNKNOWN,
-    UNKNOWN,
-    UNKNOWN,
-    UNKNOWN,
-    UNKNOWN,
-    UNKNOWN,
-    UNKNOWN,
-    UNKNOWN,
-    UNKNOWN,
-    UNKNOWN,
-    UNKNOWN,
-    UNKNOWN,
-    UNKNOWN,
-    UNKNOWN,
-    UNKNOWN,
-    UNKNOWN,
-    UNKNOWN,
-    UNKNOWN,
-    UNKNOWN,
-    UNKNOWN,
-    UNKNOWN,
-    UNKNOWN,
-    UNKNOWN,
-    UNKNOWN,
-    UNKNOWN,
-    UNKNOWN,
-    UNKNOWN,
-    UNKNOWN,
-    UNKNOWN,
-    UNKNOWN,
-    UNKNOWN,
-    UNKNOWN,
-    UNKNOWN,
-    UNKNOWN,
-    UNKNOWN,
-    UNKNOWN,
-    UNKNOWN,
-    UNKNOWN,
-    UNKNOWN,
-    UNKNOWN,
-    UNKNOWN,
-    UNKNOWN,
-    UNKNOWN,
-    UNKNOWN,
-    UNKNOWN,
-    UNKNOWN,
-    UNKNOWN,
-    UNKNOWN,
-    UNKNOWN,
-    UNKNOWN,
-    UNKNOWN,
-    UNKNOWN,
-    UNKNOWN,
-    UNKNOWN,
-    UNKNOWN,
-    UNKNOWN,
-    UNKNOWN,
-    UNKNOWN,
-    UNKNOWN,
-    UNKNOWN,
-    UNKNOWN,
-    UNKNOWN,
-    UNKNOWN,
-    UNKNOWN,
-    UNKNOWN,
-    UNKNOWN,
-    UNKNOWN,
-    UNKNOWN,
-    UNKNOWN,
-    UNKNOWN,
-    UNKNOWN,
-    UNKNOWN,
+// A column for each thing that an entry says, with bit k for opcode k. No opcode has a number of 64 or more.
+// As bits of whole numbers the table needs no memory: a look-up is a constant and a shift.
+const OPCODES: [u64; 5] = [
+    1112514167806,
+    3298534883328,
+    1099511628794,
+    131588,
+    13002342400,
 ];
 
-// The table, built once a run and lent from there.
-pub fn table() -> [u8; 256]
-    ensures { λ t. ⌜ Right-table t ⌝ }
-{
-    OPCODES
+// What the table says of an opcode: an operand, ring 0 alone, and how it uses the operand's segment.
+pub struct Entry {
+    pub operand: bool,
+    pub privileged: bool,
+    pub reads: bool,
+    pub writes: bool,
+    pub moves: bool,
 }
 
-pub fn kind_numbered(number: u8) -> Kind
-    ensures { λ k. ⌜ k ≡ kind-numbered number ⌝ }
+fn is_in(column: u64, opcode: u64) -> bool
+    requires { ⌜ opcode < 64 ⌝ }
+    ensures { λ r. ⌜ r ≡ on opcode column ⌝ }
 {
-    match number {
-        READ => Kind::Read,
-        WRITE => Kind::Write,
-        UPDATE => Kind::Update,
-        ADDRESS => Kind::Address,
-        POINTER => Kind::Pointer,
-        TRANSFER => Kind::Transfer,
-        CALL => Kind::Call,
-        RETURN => Kind::Return,
-        DBR => Kind::Dbr,
-        HALT => Kind::Halt,
-        LITERAL => Kind::Literal,
-        _ => Kind::Unknown,
+    (column >> opcode) % 2 == 1
+}
+
+pub fn entry_of(opcode: u8) -> Entry
+    ensures { λ e. ⌜ Told opcode e ⌝ }
+{
+    let k = opcode as u64;
+    if 64 <= k {
+        return Entry {
+            operand: false,
+            privileged: false,
+            reads: false,
+            writes: false,
+            moves: false,
+        };
     }
-}
-
-// What the table says of an opcode.
-pub fn kind_of(table: &[u8; 256], opcode: u8) -> Kind
-    requires { ⌜ Right-table (now table) ⌝ }
-    ensures { λ k. ⌜ Told opcode k ⌝ }
-{
-    let i = opcode as usize;
-    kind_numbered(table[i])
-}
-
-pub fn has_operand(k: Kind) -> bool
-    ensures { λ r. ⌜ r ≡ operand k ⌝ }
-{
-    match k {
-        Kind::Read => true,
-        Kind::Write => true,
-        Kind::Update => true,
-        Kind::Address => true,
-        Kind::Pointer => true,
-        Kind::Transfer => true,
-        Kind::Call => true,
-        Kind::Return => true,
-        Kind::Dbr => true,
-        Kind::Halt => false,
-        Kind::Literal => false,
-        Kind::Unknown => false,
-    }
-}
-
-// A after an opcode that reads.
-pub fn result_of(opcode: u8, a: u64, w: u64) -> u64
-    ensures { λ r. ⌜ r ≡ result opcode a w ⌝ }
-{
-    match opcode {
-        1 => w,
-        3 => crate::arithmetic::add(a, w),
-        4 => crate::arithmetic::subtract(a, w),
-        5 => crate::arithmetic::and(a, w),
-        6 => crate::arithmetic::or(a, w),
-        7 => crate::arithmetic::exclusive_or(a, w),
-        _ => crate::arithmetic::count_ones(w),
-    }
-}
-
-// Is a transfer taken?
-pub fn is_taken(opcode: u8, a: u64) -> bool
-    ensures { λ r. ⌜ r ≡ taken opcode a ⌝ }
-{
-    match opcode {
-        24 => true,
-        25 => a == 0,
-        _ => 9223372036854775808 <= a,
+    let table = OPCODES;
+    Entry {
+        operand: is_in(table[0], k),
+        privileged: is_in(table[1], k),
+        reads: is_in(table[2], k),
+        writes: is_in(table[3], k),
+        moves: is_in(table[4], k),
     }
 }

@@ -1,138 +1,114 @@
--- Reads and writes: one law for each answer, from facts as the code's tests give them. Assumes nothing.
-use mathlib.Core.Path.{_≡_, _∙_}
-use mathlib.Core.Bool.{Bool, true, false, not}
-use mathlib.Core.List.{List}
-use Prim.Native.Nat.{ℕ, _+_, _/_, _%_, _≤_, _<_}
+-- Reads and writes: one law for each answer, from facts as the code's tests and callees give them. Assumes nothing.
+use mathlib.Core.Path.{_≡_, refl, _∙_, ap}
+use mathlib.Core.Bool.{Bool, true, false, not, cond, _&&_}
+use mathlib.Core.List.{List, []}
+use Prim.Native.Nat.{ℕ, _+_, _/_, _%_}
 use native.Mathlib.Nat.{div-one}
-use native.Mathlib.Omega.{arith}
-use lib.ListN.{length, getD, set}
-use borrow.Author.Tests.{le-leb, lt-leb, not-true, not-false}
+use lib.Dec.{leb}
+use lib.ListN.{length}
+use borrow.Author.Tests.{not-true, not-false}
+use Rattle.model.specs.Words as Words
 use Rattle.model.specs.Words.{field, Pointer}
-use Rattle.model.specs.Registers.{Registers, Machine, machine, dbr-in, with-a, with-dbr, advanced}
+use Rattle.model.specs.Registers.{Dbr, Registers, machine, dbr-in, with-a, with-dbr, advanced}
 use Rattle.model.specs.Opcodes.{sum}
-use Rattle.model.specs.Questions.{ask, may-read, may-write, read-questions, write-questions, dbr-fits}
-use Rattle.model.specs.Program.{faults, completes, execute}
+use Rattle.model.specs.Questions.{read-questions, write-questions, dbr-fits}
+use Rattle.model.specs.Program.{Program, fail, finish, write, execute}
 use Rattle.model.specs.Step as Step
-use Rattle.words.specs.View.{as-descriptor}
-use Rattle.opcodes.specs.Table.{result}
+use Rattle.words.specs.View.{as-pointer}
 use Rattle.words.specs.declared.descriptor.Descriptor.{Descriptor}
-use Rattle.segments.specs.Translation.{translated}
-use Rattle.segments.specs.declared.translate.Translated.{Translated}
-use Rattle.segments.specs.declared.translate.Translated.the-variants.{Refused, Passed}
-use Rattle.segments.proofs.UseLaws.{refused-faults, no-faults, yes-goes-on, address-passed, word-passed, bounds}
-
--- 22 and 23
-module _ (t : Pointer) (d : Descriptor) (b : Bool) where
-  pub read-no : b ≡ may-read t (as-descriptor d) → not b ≡ true → read-questions t (as-descriptor d) ≡ 22
-  unfolding read-questions ask
-  read-no f v = rw (← f, not-true b v)
-
-  pub read-yes : b ≡ may-read t (as-descriptor d) → not b ≡ false → read-questions t (as-descriptor d) ≡ 0
-  unfolding read-questions ask
-  read-yes f v = rw (← f, not-false b v)
-
-  pub write-no : b ≡ may-write t (as-descriptor d) → not b ≡ true → write-questions t (as-descriptor d) ≡ 23
-  unfolding write-questions ask
-  write-no f v = rw (← f, not-true b v)
-
-  pub write-yes : b ≡ may-write t (as-descriptor d) → not b ≡ false → write-questions t (as-descriptor d) ≡ 0
-  unfolding write-questions ask
-  write-yes f v = rw (← f, not-false b v)
+use Rattle.words.specs.declared.pointer.Pointer as Code
+use Rattle.opcodes.specs.Table.{result}
+use Rattle.segments.specs.Translation.{accessed, Writes}
+use Rattle.segments.specs.View.{as-dbr, registers-with, Becomes, Does-with-any-prs, Completes, faulted-after}
+use Rattle.segments.specs.declared.state.Core.{Core}
+use Rattle.segments.specs.declared.state.After.{After}
+use Rattle.segments.specs.declared.access.Accessed.{Accessed}
+use Rattle.segments.specs.declared.access.Accessed.the-variants.{Refused, Word}
+use Rattle.segments.specs.declared.translate.Dbr as Code-dbr
+use Rattle.segments.proofs.DoesLaws.{does-fault, does-as, does-advance, does-refused-read, read-goes-on, does-refused-write, does-write}
 
 -- LDBR's word as the code takes it apart
-dbr-in-word : (v : ℕ) → dbr-in v ≡ record { address = v % 16777216; length = v / 16777216 % 8192 }
+pub dbr-in-word : (v : ℕ) → record { address = v % 16777216; length = v / 16777216 % 8192 } ≡ dbr-in v
 unfolding dbr-in field
 dbr-in-word v = rw div-one
 
-module _ (m : Machine) (t : Pointer) (x : Translated) (s : translated (m .registers .dbr) (m .memory) t x) where
-  module _ (n : ℕ) (e : x ≡ Refused n) where
-    pub load-refused : (f : ℕ → ℕ → ℕ) → execute m (Step.load f (m .registers) t) ≡ faults n t
-    unfolding execute Step.load
-    load-refused f = refused-faults m t x s n e _ _
+-- 34
+pub dbr-fits-law : (n a l : ℕ) → leb l 4096 && leb (a + l) n ≡ dbr-fits n (record { address = a; length = l })
+unfolding dbr-fits
+dbr-fits-law n a l = refl
 
-    pub store-refused : (v : ℕ) → execute m (Step.store v (m .registers) t) ≡ faults n t
-    unfolding execute Step.store
-    store-refused v = refused-faults m t x s n e _ _
+-- A READ: what each reader does with the word
+module _ (c : Core) (d : Descriptor) (m : List ℕ) (t : Pointer) (y : Accessed) (s : accessed (as-dbr (c .dbr)) m t (read-questions t) y) (x : After) where
+  module _ (n : ℕ) (u : Code.Pointer) (e : y ≡ Refused n) (f : x ≡ faulted-after c d n u) (h : as-pointer u ≡ t) where
+    pub load-refused : (g : ℕ → ℕ → ℕ) → Does-with-any-prs c d m (λ r. Step.load g r t) x m
+    unfolding Step.load
+    load-refused g = does-refused-read c d m t (read-questions t) y s _ x n u e f h
 
-    pub update-refused : (f : ℕ → ℕ) → execute m (Step.update f (m .registers) t) ≡ faults n t
-    unfolding execute Step.update
-    update-refused f = refused-faults m t x s n e _ _
+    pub update-refused : (g : ℕ → ℕ) → Does-with-any-prs c d m (λ r. Step.update g r t) x m
+    unfolding Step.update
+    update-refused g = does-refused-read c d m t (read-questions t) y s _ x n u e f h
 
-    pub load-dbr-refused : (k : ℕ) → execute m (Step.load-dbr k (m .registers) t) ≡ faults n t
-    unfolding execute Step.load-dbr
-    load-dbr-refused k = refused-faults m t x s n e _ _
+    pub load-dbr-refused : (k : ℕ) → Does-with-any-prs c d m (λ r. Step.load-dbr k r t) x m
+    unfolding Step.load-dbr
+    load-dbr-refused k = does-refused-read c d m t (read-questions t) y s _ x n u e f h
 
-  module _ (d : Descriptor) (e : x ≡ Passed d) (b : Bool) where
-    module _ (f : b ≡ may-read t (as-descriptor d)) where
-      module _ (v : not b ≡ true) where
-        pub load-unreadable : (g : ℕ → ℕ → ℕ) → execute m (Step.load g (m .registers) t) ≡ faults 22 t
-        unfolding execute Step.load
-        load-unreadable g = no-faults m t x s d e _ 22 _ (read-no t d b f v) (omega arith)
+  module _ (e : Descriptor) (w : ℕ) (f : y ≡ Word e w) where
+    pub load-completes : (k u : ℕ) (z : Core) → u ≡ result k (c .a) w → Becomes c (with-a u) z → Completes z d x → Does-with-any-prs c d m (λ r. Step.load (result k) r t) x m
+    unfolding Step.load with-a execute machine
+    load-completes k u z g h i =
+        record {
+          does =
+              λ ps.
+              does-advance c z d ps m m _ x (with-a u (registers-with c ps)) (ap (λ (r : Registers). r .ipr .ring) (h .registers-same [])) i (h .registers-same ps)
+              (read-goes-on c d m t (read-questions t) y s (λ r _ v. finish (advanced (with-a (result k (r .a) v) r))) x e w f ps ∙ rw (← g));
+        }
 
-        pub update-unreadable : (g : ℕ → ℕ) → execute m (Step.update g (m .registers) t) ≡ faults 22 t
-        unfolding execute Step.update
-        update-unreadable g = no-faults m t x s d e _ 22 _ (read-no t d b f v) (omega arith)
+    -- AOS's write, once its read has passed
+    pub update-stores : (u : ℕ) (m-now : List ℕ) → u ≡ sum w 1 → Does-with-any-prs c d m (λ r. Step.store u r t) x m-now →
+        Does-with-any-prs c d m (λ r. Step.update (λ v. sum v 1) r t) x m-now
+    unfolding Step.update Step.store
+    update-stores u m-now g h =
+        record {
+          does =
+              λ ps.
+              does-as c d ps m _ x ps m-now _
+              (read-goes-on c d m t (read-questions t) y s (λ r _ v. write (write-questions t) t (sum v 1) (advanced r)) x e w f ps ∙ rw (← g)) (h .does ps);
+        }
 
-        pub load-dbr-unreadable : (k : ℕ) → execute m (Step.load-dbr k (m .registers) t) ≡ faults 22 t
-        unfolding execute Step.load-dbr
-        load-dbr-unreadable k = no-faults m t x s d e _ 22 _ (read-no t d b f v) (omega arith)
+    after-read : Registers → Words.Descriptor → ℕ → Program
+    after-read r _ v = cond (dbr-fits (length m) (dbr-in v)) (finish (advanced (with-dbr (dbr-in v) r))) (fail 34 t)
 
-      module _ (v : not b ≡ false) where
-        module _ (w : ℕ) (h : w ≡ getD (m .memory) (d .address + t .word) 0) (q : Registers) where
-          pub load-completes : (o k u : ℕ) (p : Registers) → o ≡ k → u ≡ result o (m .registers .a) w → p ≡ with-a u (m .registers) →
-              q ≡ advanced p → execute m (Step.load (result k) (m .registers) t) ≡ completes (record { registers = q; memory = m .memory })
-          unfolding execute Step.load machine
-          load-completes o k u p i j l z =
-              yes-goes-on m t x s d e _ _ (read-yes t d b f v) ∙ rw (z, l, j, i, word-passed m t x s d e w h)
+    module _ (v : Code-dbr.Dbr) (g : as-dbr v ≡ dbr-in w) (b : Bool) (h : b ≡ dbr-fits (length m) (as-dbr v)) where
+      pub load-dbr-unfit : (u : Code.Pointer) → not b ≡ true → x ≡ faulted-after c d 34 u → as-pointer u ≡ t → Does-with-any-prs c d m (λ r. Step.load-dbr (length m) r t) x m
+      unfolding Step.load-dbr execute after-read
+      load-dbr-unfit u i j k =
+          record {
+            does =
+                λ ps.
+                does-fault c d ps m _ x 34 u j
+                (read-goes-on c d m t (read-questions t) y s after-read x e w f ps ∙ rw (← g, ← h, not-true b i, k));
+          }
 
-          pub load-dbr-completes : (p : Registers) → w / 16777216 % 8192 ≤ 4096 → w % 16777216 + w / 16777216 % 8192 ≤ length (m .memory) →
-              p ≡ with-dbr (record { address = w % 16777216; length = w / 16777216 % 8192 }) (m .registers) → q ≡ advanced p →
-              execute m (Step.load-dbr (length (m .memory)) (m .registers) t) ≡ completes (record { registers = q; memory = m .memory })
-          unfolding execute Step.load-dbr machine dbr-fits
-          load-dbr-completes p y z l i =
-              yes-goes-on m t x s d e _ _ (read-yes t d b f v) ∙ simp (word-passed m t x s d e w h, dbr-in-word w, le-leb _ _ y, le-leb _ _ z, i, l)
+      pub load-dbr-completes : (z : Core) → not b ≡ false → Becomes c (with-dbr (as-dbr v)) z → Completes z d x → Does-with-any-prs c d m (λ r. Step.load-dbr (length m) r t) x m
+      unfolding Step.load-dbr with-dbr execute machine after-read
+      load-dbr-completes z i j k =
+          record {
+            does =
+                λ ps.
+                does-advance c z d ps m m _ x (with-dbr (as-dbr v) (registers-with c ps)) (ap (λ (r : Registers). r .ipr .ring) (j .registers-same [])) k (j .registers-same ps)
+                (read-goes-on c d m t (read-questions t) y s after-read x e w f ps ∙ rw (← g, ← h, not-false b i));
+          }
 
-        module _ (w : ℕ) (h : w ≡ getD (m .memory) (d .address + t .word) 0) where
-          pub load-dbr-too-long : 4096 < w / 16777216 % 8192 → (k : ℕ) → execute m (Step.load-dbr k (m .registers) t) ≡ faults 34 t
-          unfolding execute Step.load-dbr dbr-fits
-          load-dbr-too-long y k =
-              yes-goes-on m t x s d e _ _ (read-yes t d b f v) ∙ simp (word-passed m t x s d e w h, dbr-in-word w, lt-leb _ _ y)
+pub ruleset reads = (load-refused, update-refused, load-dbr-refused, load-completes, update-stores, load-dbr-unfit, load-dbr-completes)
 
-          pub load-dbr-past-end : w / 16777216 % 8192 ≤ 4096 → (k : ℕ) → k < w % 16777216 + w / 16777216 % 8192 →
-              execute m (Step.load-dbr k (m .registers) t) ≡ faults 34 t
-          unfolding execute Step.load-dbr dbr-fits
-          load-dbr-past-end y k z =
-              yes-goes-on m t x s d e _ _ (read-yes t d b f v) ∙ simp (word-passed m t x s d e w h, dbr-in-word w, le-leb _ _ y, lt-leb _ _ z)
+-- A WRITE
+module _ (c : Core) (d : Descriptor) (m m-now : List ℕ) (t : Pointer) (v n : ℕ) (s : Writes (as-dbr (c .dbr)) m t (write-questions t) v n m-now) (x : After) where
+  pub store-refused : (u : Code.Pointer) → (n ≡ 0 → ⊥) → x ≡ faulted-after c d n u → as-pointer u ≡ t → Does-with-any-prs c d m (λ r. Step.store v r t) x m-now
+  unfolding Step.store
+  store-refused u z e h = does-refused-write c d m m-now t (write-questions t) v n s x u z e h
 
-        module _ (a : Bool) (g : a ≡ may-write t (as-descriptor d)) where
-          pub update-unwritable : not a ≡ true → (r : ℕ → ℕ) → execute m (Step.update r (m .registers) t) ≡ faults 23 t
-          unfolding execute Step.update
-          update-unwritable u r =
-              yes-goes-on m t x s d e _ _ (read-yes t d b f v) ∙ no-faults m t x s d e _ 23 _ (write-no t d a g u) (omega arith)
+  pub store-completes : n ≡ 0 → Completes c d x → Does-with-any-prs c d m (λ r. Step.store v r t) x m-now
+  unfolding Step.store
+  store-completes z h = does-write c d m m-now t (write-questions t) v n s x z h
 
-          pub update-completes : not a ≡ false → (w u : ℕ) (q : Registers) (l : List ℕ) → w ≡ getD (m .memory) (d .address + t .word) 0 → u ≡ sum w 1 →
-              l ≡ set (m .memory) (d .address + t .word) u → q ≡ advanced (m .registers) →
-              execute m (Step.update (λ w. sum w 1) (m .registers) t) ≡ completes (record { registers = q; memory = l })
-          unfolding execute Step.update machine
-          update-completes y w u q l h i j z =
-              yes-goes-on m t x s d e _ _ (read-yes t d b f v)
-              ∙ yes-goes-on m t x s d e _ _ (write-yes t d a g y)
-              ∙ simp (z, j, i, address-passed m t x s d e, word-passed m t x s d e w h)
-
-    module _ (f : b ≡ may-write t (as-descriptor d)) where
-      pub store-unwritable : not b ≡ true → (u : ℕ) → execute m (Step.store u (m .registers) t) ≡ faults 23 t
-      unfolding execute Step.store
-      store-unwritable v u = no-faults m t x s d e _ 23 _ (write-no t d b f v) (omega arith)
-
-      pub store-completes : not b ≡ false → (u : ℕ) (q : Registers) (l : List ℕ) → q ≡ advanced (m .registers) → l ≡ set (m .memory) (d .address + t .word) u →
-          execute m (Step.store u (m .registers) t) ≡ completes (record { registers = q; memory = l })
-      unfolding execute Step.store machine
-      store-completes v u q l i j = yes-goes-on m t x s d e _ _ (write-yes t d b f v) ∙ rw (i, j, address-passed m t x s d e)
-
-pub ruleset loads = (bounds, load-refused, load-unreadable, load-completes)
-
-pub ruleset stores = (bounds, store-refused, store-unwritable, store-completes)
-
-pub ruleset updates = (bounds, update-refused, update-unreadable, update-unwritable, update-completes)
-
-pub ruleset dbr-loads = (bounds, load-dbr-refused, load-dbr-unreadable, load-dbr-too-long, load-dbr-past-end, load-dbr-completes)
+pub ruleset writes = (store-refused, store-completes)

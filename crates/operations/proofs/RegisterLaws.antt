@@ -1,21 +1,41 @@
 -- LDI, EAP, and the word that SPP stores. Assumes nothing.
-use mathlib.Core.Path.{_≡_, sym, _∙_, ap}
-use mathlib.Core.List.{List}
+use mathlib.Core.Path.{_≡_, _∙_, ap}
+use mathlib.Core.List.{List, []}
 use Prim.Native.Nat.{ℕ}
-use lib.ListN.{getD, set, List·getD-map}
-use Rattle.model.specs.Words.{field, Pointer, pointer-in, pointer-word}
-use Rattle.model.specs.Registers.{Registers, with-a, with-prs, with-pr, advanced}
-use Rattle.segments.specs.View.{pr-of}
+use lib.ListN.{set}
+use Rattle.model.specs.Words.{Pointer, pointer-word}
+use Rattle.model.specs.Registers.{Registers, with-a, with-ipr, with-prs, with-pr, moved-by, advanced}
+use Rattle.words.specs.declared.descriptor.Descriptor.{Descriptor}
+use Rattle.segments.specs.View.{registers-with, Becomes, Completes, Finishes, Finishes-with-any-prs, pr-of}
+use Rattle.segments.specs.declared.state.Core.{Core}
+use Rattle.segments.specs.declared.state.After.{After}
 
-pub literal-finishes : (r p q : Registers) (v u : ℕ) → q ≡ advanced p → p ≡ with-a v r → v ≡ u → q ≡ advanced (with-a u r)
-literal-finishes r p q v u e f g = e ∙ ap advanced (f ∙ ap (λ z. with-a z r) g)
+pub literal-finishes : (c z : Core) (d : Descriptor) (x : After) (v u : ℕ) → Becomes c (with-a v) z → v ≡ u → Completes z d x → Finishes-with-any-prs c d (with-a u) x
+unfolding with-a advanced with-ipr moved-by
+literal-finishes c z d x v u e f h =
+    record {
+      finishes =
+          λ ps.
+          record {
+            completed = h .completed;
+            code-same = h .code-same;
+            ring-same = ap (λ (r : Registers). r .ipr .ring) (h .core-same .registers-same []) ∙ ap (λ (r : Registers). r .ipr .ring) (e .registers-same []);
+            registers-same = h .core-same .registers-same ps ∙ ap advanced (e .registers-same ps ∙ ap (λ k. with-a k (registers-with c ps)) f);
+          };
+    }
 
-pub pointer-finishes : (r q : Registers) (ps : List Pointer) (j k : ℕ) (t : Pointer) → q ≡ advanced (record { a = r .a; dbr = r .dbr; ipr = r .ipr; prs = ps }) →
-    ps ≡ set (r .prs) j t → j ≡ k → q ≡ advanced (with-pr k t r)
-unfolding with-pr with-prs
-pointer-finishes r q ps j k t e f g =
-    e ∙ ap (λ z. advanced (record { a = r .a; dbr = r .dbr; ipr = r .ipr; prs = z })) (f ∙ ap (λ i. set (r .prs) i t) g)
+pub pointer-finishes : (c : Core) (d : Descriptor) (x : After) (ps qs : List Pointer) (j k : ℕ) (t : Pointer) → Completes c d x → qs ≡ set ps j t → j ≡ k →
+    Finishes c d ps (with-pr k t) x qs
+unfolding with-pr with-prs advanced with-ipr moved-by
+pointer-finishes c d x ps qs j k t h f g =
+    record {
+      completed = h .completed;
+      code-same = h .code-same;
+      ring-same = ap (λ (r : Registers). r .ipr .ring) (h .core-same .registers-same []);
+      registers-same = h .core-same .registers-same qs ∙ ap (λ z. advanced (registers-with c z)) (f ∙ ap (λ i. set ps i t) g);
+    }
 
-pub stored-pointer : (prs : List ℕ) (j k v : ℕ) (p : Pointer) → v ≡ pointer-word p → p ≡ pointer-in (getD prs j 0) → j ≡ k → v ≡ pointer-word (pr-of prs k)
-unfolding pr-of pointer-in field
-stored-pointer prs j k v p e f g = e ∙ ap pointer-word (f ∙ sym (List·getD-map pointer-in prs j 0) ∙ ap (pr-of prs) g)
+pub stored-pointer : (prs : List ℕ) (j k v : ℕ) (p : Pointer) → v ≡ pointer-word p → p ≡ pr-of prs j → j ≡ k → v ≡ pointer-word (pr-of prs k)
+stored-pointer prs j k v p e f g = e ∙ ap pointer-word (f ∙ ap (pr-of prs) g)
+
+pub ruleset finishing = (literal-finishes, pointer-finishes, stored-pointer)

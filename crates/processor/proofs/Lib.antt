@@ -1,3 +1,2 @@
 -- Laws of this crate. Assumes nothing.
-pub mod FetchLaws
-pub mod StepLaws
+pub mod FormLaws

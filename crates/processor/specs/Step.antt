@@ -1,46 +1,40 @@
--- What fetching answers, and a fetched instruction of a kind as a program. Assumes nothing: these are definitions.
+-- What forming an instruction answers. Assumes nothing: these are definitions.
 use mathlib.Core.Path.{_≡_}
-use mathlib.Core.Bool.{true, cond}
-use mathlib.Core.List.{List}
 use Prim.Native.Nat.{ℕ}
-use lib.Dec.{eqb}
 use lib.ListN.{length}
-use mathlib.Core.Option.{Option, none, some}
-use Rattle.model.specs.Words as Words
 use Rattle.model.specs.Words.{instruction-in}
 use Rattle.model.specs.Registers as Registers
-use Rattle.model.specs.Opcodes.{Opcode}
-use Rattle.model.specs.Questions.{ask}
-use Rattle.model.specs.Program.{Program, fail, execute, faults}
-use Rattle.model.specs.Step.{with-operand, perform, step}
-use Rattle.opcodes.specs.Table.{known, privileged, entry-of}
-use Rattle.opcodes.specs.declared.table.Kind.{Kind}
-use Rattle.segments.specs.View.{as-machine}
-use Rattle.segments.specs.declared.state.Core.{Core}
-use Rattle.processor.specs.declared.Fetched.{Fetched}
-use Rattle.processor.specs.declared.Fetched.the-variants as Fetched
+use Rattle.model.specs.Opcodes.{decoded}
+use Rattle.model.specs.Program.{Program, execute, faults}
+use Rattle.model.specs.Step.{obey, step}
+use Rattle.words.specs.View.{as-pointer, Pointer-within}
+use Rattle.words.specs.declared.pointer.Pointer.{Pointer}
+use Rattle.segments.specs.Translation.{Code-right}
+use Rattle.dispatch.specs.Dispatch.{dispatched-in}
+use Rattle.addressing.specs.declared.Address.{Address}
+use Rattle.addressing.specs.declared.Address.the-variants as Address
+use Rattle.processor.specs.declared.Formed.{Formed}
+use Rattle.processor.specs.declared.Formed.the-variants as Formed
+use Rattle.processor.specs.declared.Prepared.{Prepared}
+use Rattle.processor.specs.declared.Prepared.the-variants as Prepared
 
--- 32 AND 33 by an opcode's kind
-unfoldable pub opcode-answer : Kind → (ring : ℕ) → ℕ
-opcode-answer k n = ask (known k) 32 (ask (cond (privileged k) (eqb n 0) true) 33 0)
+abbrev pub obeyed-in : Registers.Machine → (word : ℕ) → Program
+obeyed-in m w = obey (length (m .memory)) (m .registers) (instruction-in w) (decoded (instruction-in w .opcode))
 
--- once 32 and 33 have a yes; an opcode that is in no table has none
-unfoldable pub performed : (size : ℕ) → Option Opcode → Words.Instruction → Registers.Registers → Words.Pointer → Program
-performed n none i r t = fail 32 t
-performed n (some o) i r t = perform n (o .access) i r t
+-- TPR of a fetched instruction, or its fault
+abbrev pub operand-formed : Registers.Machine → (word : ℕ) → Address → Type 0
+operand-formed m w (Address.Bad n t) = execute m (obeyed-in m w) ≡ faults n (as-pointer t)
+operand-formed m w (Address.Good t) = (execute m (obeyed-in m w) ≡ execute m (dispatched-in m w (as-pointer t))) × Pointer-within t
 
-unfoldable pub obeyed : (size : ℕ) → Option Opcode → Words.Instruction → Registers.Registers → Program
-obeyed n none i r = fail 32 (r .ipr)
-obeyed n (some o) i r = with-operand o i r (perform n (o .access) i r)
+-- the step is what the instruction word does at the pointer
+pub record Ready-to-perform (m : Registers.Machine) (word : ℕ) (t : Pointer) : Type 0 where
+  pub step-same : step m ≡ execute m (dispatched-in m word (as-pointer t))
+  pub within : Pointer-within t
 
--- the entry that a kind says of an instruction word
-unfoldable pub entry-in : (word : ℕ) → Kind → Option Opcode
-entry-in w k = entry-of (instruction-in w .opcode) k
+abbrev pub formed : Registers.Machine → Formed → Type 0
+formed m (Formed.Bad n t) = step m ≡ faults n (as-pointer t)
+formed m (Formed.Ready w t d) = Ready-to-perform m w t × Code-right (d .0) (m .registers .ipr .ring) (length (m .memory))
 
-abbrev pub fetched : Registers.Machine → Fetched → Type 0
-fetched m (Fetched.Refused n) = step m ≡ faults n (m .registers .ipr)
-fetched m (Fetched.Word w k) = step m ≡ execute m (obeyed (length (m .memory)) (entry-in w k) (instruction-in w) (m .registers))
-
--- whatever the PRs are
-abbrev pub fetched-with-any-prs : Core → (memory : List ℕ) → Fetched → Type 0
-fetched-with-any-prs c m x = (prs : List ℕ) → fetched (as-machine c prs m) x
+abbrev pub quickly-formed : Registers.Machine → Prepared → Type 0
+quickly-formed m Prepared.No = Unit {0}
+quickly-formed m (Prepared.Ready w t) = Ready-to-perform m w t

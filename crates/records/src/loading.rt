@@ -50,7 +50,7 @@ pub fn nothing_loaded() -> Loading
                 length: 0,
             },
             ipr: zero,
-            prs: [zero; 8],
+            prs: [0; 24],
         },
     }
 }

@@ -1,3 +1,4 @@
 -- Laws of this crate. Assumes nothing.
 pub mod RunLaws
 pub mod TraceLaws
+pub mod TurnLaws

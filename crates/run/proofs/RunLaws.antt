@@ -1,114 +1,194 @@
--- A run: one law for each way out of the loop and for its next turn. Assumes nothing.
-use mathlib.Core.Path.{_≡_, refl, sym, _∙_, ap}
+-- A run: what 1 to 4 give, one step on the way, and one law for each way out of the loops. Assumes nothing.
+use mathlib.Core.Path.{_≡_, refl, sym, _∙_, ap, subst}
 use mathlib.Core.Bool.{true}
-use mathlib.Core.List.{List}
+use mathlib.Core.List.{List, [], _∷_, _++_, append-nil, append-assoc}
 use mathlib.Core.Logic.{inl, inr}
 use Prim.Native.Nat.{ℕ, suc, _+_, _-_, _≤_, _<_}
+use native.Mathlib.Numerals.{add-one}
 use native.Mathlib.Omega.{arith}
 use lib.Dec.{leb}
-use lib.ListN.{length}
+use lib.ListN.{length, take}
 use borrow.Author.Tests.{leb-true}
 use Rattle.model.specs.Registers.{Machine}
-use Rattle.model.specs.Questions.{pointer-in-range, registers-in-range, dbr-fits, start-questions}
+use Rattle.model.specs.Questions.{all, pointer-in-range, registers-in-range, dbr-fits, start-questions}
 use Rattle.model.specs.Step.{step}
 use Rattle.model.specs.Run as Run
-use Rattle.model.specs.Run.{ran, run-from}
+use Rattle.model.specs.Run.{ran, run-from, trace-from}
+use Rattle.model.specs.Program.{faults}
 use Rattle.model.proofs.BranchLaws.{and-left, and-right}
 use Rattle.model.proofs.WordLaws.{in-range-within}
 use Rattle.model.proofs.QuestionLaws.{ask-yes}
 use Rattle.model.proofs.FaultLaws.{fault-pointer-within}
 use Rattle.model.proofs.SoundLaws.{step-keeps-passing}
-use Rattle.model.proofs.RunLaws.{run-faults, run-halts, run-completes}
+use Rattle.model.proofs.RunLaws.{run-faults, run-halts, run-completes, trace-faults, trace-halts, trace-completes}
 use Rattle.words.specs.View.{as-pointer, Pointer-within}
 use Rattle.words.specs.declared.pointer.Pointer.{Pointer}
+use Rattle.words.specs.declared.descriptor.Descriptor.{Descriptor}
 use Rattle.segments.specs.declared.state.Core.{Core}
+use Rattle.segments.specs.declared.state.After.{After}
 use Rattle.segments.specs.declared.state.End.{End}
 use Rattle.segments.specs.declared.state.End.the-variants.{Completed, Halted, Faulted}
-use Rattle.segments.specs.View.{as-machine, ended}
+use Rattle.segments.specs.View.{as-pointers, as-machine, Ready, ended, Does}
+use Rattle.dispatch.specs.Dispatch.{dispatched-in}
+use Rattle.processor.specs.Step.{Ready-to-perform}
+use Rattle.run.specs.Run.{as-reply, Reply-within, completed, Ran-as, noted-pointers, Noted, Traced, On-the-way, At-the-end}
+use Rattle.run.specs.declared.Ran.{Ran}
 
 -- WHAT 1 TO 4 GIVE
-module _ (m : Machine) (e : start-questions m ≡ 0) where
-  passing-ipr : pointer-in-range (m .registers .ipr) ≡ true
-  unfolding start-questions registers-in-range
-  passing-ipr = and-left (pointer-in-range (m .registers .ipr)) _ (ask-yes _ _ _ (ask-yes _ _ _ e .1) .0)
+module _ (c : Core) (prs m : List ℕ) (e : start-questions (as-machine c prs m) ≡ 0) where
+  in-range : registers-in-range (as-machine c prs m .registers) ≡ true
+  unfolding start-questions
+  in-range = ask-yes _ _ _ (ask-yes _ _ _ e .1) .0
 
-  pub passing-ring : m .registers .ipr .ring ≤ 7
-  passing-ring = in-range-within _ passing-ipr .ring-within
+  passing-ipr : pointer-in-range (as-pointer (c .ipr)) ≡ true
+  unfolding registers-in-range
+  passing-ipr = and-left (pointer-in-range (as-pointer (c .ipr))) _ in-range
 
-  pub passing-segment : m .registers .ipr .segment ≤ 4095
-  passing-segment = in-range-within _ passing-ipr .segment-within
+  pub prs-in-range : all pointer-in-range (as-pointers prs) ≡ true
+  unfolding registers-in-range
+  prs-in-range = and-left (all pointer-in-range (as-pointers prs)) _ (and-right (pointer-in-range (as-pointer (c .ipr))) _ in-range)
 
-  pub passing-dbr : m .registers .dbr .address + m .registers .dbr .length ≤ length (m .memory)
+  passing-dbr : c .dbr .address + c .dbr .length ≤ length m
   unfolding start-questions dbr-fits
   passing-dbr =
-      leb-true _ _
-      (and-right (leb (m .registers .dbr .length) 4096) _ (ask-yes _ _ _ (ask-yes _ _ _ (ask-yes _ _ _ (ask-yes _ _ _ e .1) .1) .1) .0))
+      leb-true _ _ (and-right (leb (c .dbr .length) 4096) _ (ask-yes _ _ _ (ask-yes _ _ _ (ask-yes _ _ _ (ask-yes _ _ _ e .1) .1) .1) .0))
 
--- THE LOOP: z is what the whole run gives, with b the budget and c the count
-module _ (b c : ℕ) (m : Machine) (z : Run.Ran) (e : run-from (b - c) c m ≡ z) where
-  pub spent-law : b ≤ c → z ≡ ran (Run.Reply.spent c) m
-  unfolding run-from
-  spent-law h = sym e ∙ ap (λ k. run-from k c m) (let q : b - c ≡ 0 = omega arith in q)
+  pub ready-passing : Ready c m
+  ready-passing =
+      let h = in-range-within _ passing-ipr in record { dbr-fits = passing-dbr; ring-within = h .ring-within; segment-within = h .segment-within }
 
-  module _ (h : c < b) (x : End) (k : Machine) (s : ended m (step m) x k) where
-    one-more : run-from (suc (b - suc c)) c m ≡ z
-    one-more = ap (λ n. run-from n c m) (let q : suc (b - suc c) ≡ b - c = omega arith in q) ∙ e
+  pub ipr-passing : Pointer-within (c .ipr)
+  ipr-passing =
+      let h = in-range-within _ passing-ipr in record { ring-within = h .ring-within; segment-within = h .segment-within; word-within = h .word-within }
 
-    pub fault-law : (n : ℕ) (t : Pointer) → x ≡ Faulted n t → z ≡ ran (Run.Reply.fault n c (as-pointer t)) k
-    unfolding ended
-    fault-law n t f =
-        let q = rw f at s in sym one-more ∙ run-faults (b - suc c) c n (as-pointer t) m (q .0) ∙ ap (ran (Run.Reply.fault n c (as-pointer t))) (sym (q .1))
+-- AN INSTRUCTION PERFORMED is the step
+pub performed-ends : (c : Core) (d : Descriptor) (prs m prs-now m-now : List ℕ) (w : ℕ) (t : Pointer) (x : After) → Ready-to-perform (as-machine c prs m) w t →
+    Does c d (as-pointers prs) m (dispatched-in (as-machine c prs m) w (as-pointer t)) x (as-pointers prs-now) m-now →
+    ended (as-machine c prs m) (step (as-machine c prs m)) (x .end) (as-machine (x .core) prs-now m-now)
+performed-ends c d prs m prs-now m-now w t x r h =
+    subst (λ z. ended (as-machine c prs m) z (x .end) (as-machine (x .core) prs-now m-now)) (sym (r .step-same)) (h .ends)
 
-    pub halt-law : x ≡ Halted → z ≡ ran (Run.Reply.halted (c + 1)) k
-    unfolding ended
-    halt-law f =
-        let q = rw f at s in
-        sym one-more ∙ run-halts (b - suc c) c m k q ∙ ap (λ n. ran (Run.Reply.halted n) k) (let y : suc c ≡ c + 1 = omega arith in y)
+-- 1 TO 4 PASS AGAIN, however a step ends
+pub passing-after : (m : Machine) (x : End) (k : Machine) → ended m (step m) x k → start-questions m ≡ 0 → start-questions k ≡ 0
+unfolding ended
+passing-after m Completed k s e = step-keeps-passing m k e (inl s)
+passing-after m Halted k s e = step-keeps-passing m k e (inr s)
+passing-after m (Faulted n t) k s e = ap start-questions (s .1) ∙ e
 
-    pub next-law : x ≡ Completed → run-from (b - (c + 1)) (c + 1) k ≡ z
-    unfolding ended
-    next-law f =
-        let q = rw f at s in
-        let y : c + 1 ≡ suc c = omega arith in
-        ap (λ n. run-from (b - n) n k) y ∙ sym (run-completes (b - suc c) c m k q) ∙ one-more
+-- ONE STEP ON THE WAY, of b with c behind
+module _ (b c : ℕ) (m : Machine) (t : List ℕ) where
+  pub way-starts : c ≤ b → start-questions m ≡ 0 → On-the-way b c m t c m t
+  way-starts h e = record { within-budget = h; passes = e; size-same = refl; trace-size = refl; run-same = refl; trace-same = λ _. refl }
 
-pub start-law : (b : ℕ) (m : Machine) → run-from (b - 0) 0 m ≡ run-from b 0 m
-start-law b m = ap (λ k. run-from k 0 m) (let q : b - 0 ≡ b = omega arith in q)
+  module _ (n : ℕ) (k : Machine) (u : List ℕ) (way : On-the-way b c m t n k u) (h : n < b) where
+    left : b - n ≡ suc (b - suc n)
+    left = omega arith
 
--- 1 to 4 pass again
-module _ (m : Machine) (x : End) (k : Machine) (s : ended m (step m) x k) (e : start-questions m ≡ 0) where
-  pub passing-next : x ≡ Completed → start-questions k ≡ 0
-  unfolding ended
-  passing-next f = step-keeps-passing m k e (inl (rw f at s))
+    after : b - (n + 1) ≡ b - suc n
+    after = omega arith
 
-  pub passing-halt : x ≡ Halted → start-questions k ≡ 0
-  unfolding ended
-  passing-halt f = step-keeps-passing m k e (inr (rw f at s))
+    module _ (j : Machine) where
+      -- a fault, which leaves the machine
+      pub way-faults : (i : ℕ) (p : Pointer) → step k ≡ faults i (as-pointer p) → j ≡ k → At-the-end b c m t (Run.Reply.fault i n (as-pointer p)) n j u
+      way-faults i p s f =
+          record {
+            passes = ap start-questions f ∙ way .passes;
+            trace-size = way .trace-size;
+            run-same =
+                way .run-same ∙ ap (λ z. run-from z n k) left ∙ run-faults (b - suc n) n i (as-pointer p) k s ∙ ap (ran (Run.Reply.fault i n (as-pointer p))) (sym f);
+            trace-same =
+                λ room.
+                way .trace-same room
+                ∙ ap (λ z. noted-pointers (take n u) ++ z) (ap (λ z. trace-from z k) left ∙ trace-faults (b - suc n) i (as-pointer p) k s)
+                ∙ append-nil (noted-pointers (take n u));
+          }
 
-  -- a fault's pointer is in range
-  module _ (n : ℕ) (t : Pointer) (f : x ≡ Faulted n t) where
-    pub fault-ring : t .ring ≤ 7
-    unfolding ended
-    fault-ring = fault-pointer-within m n (as-pointer t) e ((rw f at s) .0) .ring-within
+      module _ (v : List ℕ) (w : Noted n (j .registers .ipr) u v) where
+        noted-here : b ≤ length t → noted-pointers (take (n + 1) v) ≡ noted-pointers (take n u) ++ j .registers .ipr ∷ []
+        noted-here room = w .noted (let z = way .trace-size in omega arith)
 
-    pub fault-segment : t .segment .0 ≤ 4095
-    unfolding ended
-    fault-segment = fault-pointer-within m n (as-pointer t) e ((rw f at s) .0) .segment-within
+        pub way-halts : ended k (step k) Halted j → At-the-end b c m t (Run.Reply.halted (n + 1)) (n + 1) j v
+        unfolding ended
+        way-halts s =
+            record {
+              passes = passing-after k Halted j s (way .passes);
+              trace-size = w .size-same ∙ way .trace-size;
+              run-same =
+                  way .run-same ∙ ap (λ z. run-from z n k) left ∙ run-halts (b - suc n) n k j s
+                  ∙ ap (λ z. ran (Run.Reply.halted z) j) (sym (add-one n));
+              trace-same =
+                  λ room.
+                  way .trace-same room
+                  ∙ ap (λ z. noted-pointers (take n u) ++ z) (ap (λ z. trace-from z k) left ∙ trace-halts (b - suc n) k j s)
+                  ∙ sym (noted-here room);
+            }
 
-  pub passing-fault : (n : ℕ) (t : Pointer) → x ≡ Faulted n t → start-questions k ≡ 0
-  unfolding ended
-  passing-fault n t f = ap start-questions ((rw f at s) .1) ∙ e
+        pub way-goes-on : ended k (step k) Completed j → length (j .memory) ≡ length (k .memory) → On-the-way b c m t (n + 1) j v
+        unfolding ended
+        way-goes-on s z =
+            record {
+              within-budget = omega arith;
+              passes = passing-after k Completed j s (way .passes);
+              size-same = z ∙ way .size-same;
+              trace-size = w .size-same ∙ way .trace-size;
+              run-same =
+                  way .run-same ∙ ap (λ z. run-from z n k) left ∙ run-completes (b - suc n) n k j s
+                  ∙ ap (λ z. run-from (b - z) z j) (sym (add-one n));
+              trace-same =
+                  λ room.
+                  way .trace-same room
+                  ∙ ap (λ z. noted-pointers (take n u) ++ z) (ap (λ z. trace-from z k) left ∙ trace-completes (b - suc n) k j s)
+                  ∙ sym (append-assoc (noted-pointers (take n u)) (j .registers .ipr ∷ []) (trace-from (b - suc n) j))
+                  ∙ ap (λ l. l ++ trace-from (b - suc n) j) (sym (noted-here room))
+                  ∙ ap (λ z. noted-pointers (take (n + 1) v) ++ trace-from z j) (sym after);
+            }
 
--- IPR after a step is in range, however the step ends
-passing-after : (m : Machine) (x : End) (k : Machine) → ended m (step m) x k → start-questions m ≡ 0 → start-questions k ≡ 0
-passing-after m Completed k s e = passing-next m Completed k s e refl
-passing-after m Halted k s e = passing-halt m Halted k s e refl
-passing-after m (Faulted n t) k s e = passing-fault m (Faulted n t) k s e n t refl
+-- STRETCHES OF THE WAY, one after the other
+module _ (b c : ℕ) (m : Machine) (t : List ℕ) (n : ℕ) (k : Machine) (u : List ℕ) (way : On-the-way b c m t n k u) where
+  pub way-joins : (i : ℕ) (j : Machine) (v : List ℕ) → On-the-way b n k u i j v → On-the-way b c m t i j v
+  way-joins i j v more =
+      record {
+        within-budget = more .within-budget;
+        passes = more .passes;
+        size-same = more .size-same ∙ way .size-same;
+        trace-size = more .trace-size ∙ way .trace-size;
+        run-same = way .run-same ∙ more .run-same;
+        trace-same = λ room. way .trace-same room ∙ more .trace-same (let z = way .trace-size in omega arith);
+      }
 
-pub ipr-after : (core : Core) (prs memory : List ℕ) (m : Machine) (x : End) → ended m (step m) x (as-machine core prs memory) → start-questions m ≡ 0 →
-    Pointer-within (core .ipr)
-ipr-after core prs memory m x s e =
-    let q = passing-after m x (as-machine core prs memory) s e in
-    record { ring-within = passing-ring (as-machine core prs memory) q; segment-within = passing-segment (as-machine core prs memory) q }
+  pub way-ends : (r : Run.Reply) (i : ℕ) (j : Machine) (v : List ℕ) → At-the-end b n k u r i j v → At-the-end b c m t r i j v
+  way-ends r i j v end =
+      record {
+        passes = end .passes;
+        trace-size = end .trace-size ∙ way .trace-size;
+        run-same = way .run-same ∙ end .run-same;
+        trace-same = λ room. way .trace-same room ∙ end .trace-same (let z = way .trace-size in omega arith);
+      }
 
-pub ruleset runs = (start-law, passing-ring, passing-segment, passing-dbr, spent-law, fault-law, halt-law, next-law, passing-next, passing-halt, passing-fault, fault-ring, fault-segment, ipr-after)
+  -- the budget is spent
+  pub way-spent : b ≤ n → At-the-end b c m t (Run.Reply.spent n) n k u
+  unfolding run-from trace-from
+  way-spent h =
+      let none : b - n ≡ 0 = omega arith in
+      record {
+        passes = way .passes;
+        trace-size = way .trace-size;
+        run-same = way .run-same ∙ ap (λ z. run-from z n k) none;
+        trace-same = λ room. way .trace-same room ∙ ap (λ z. noted-pointers (take n u) ++ trace-from z k) none ∙ append-nil (noted-pointers (take n u));
+      }
+
+-- a fault's pointer is in range
+pub fault-within : (m : Machine) (n : ℕ) (t : Pointer) → start-questions m ≡ 0 → step m ≡ faults n (as-pointer t) → Pointer-within t
+fault-within m n t e s =
+    let h = fault-pointer-within m n (as-pointer t) e s in record { ring-within = h .ring-within; segment-within = h .segment-within; word-within = h .word-within }
+
+-- THE ANSWER, where the way began with the run
+pub answers : (b : ℕ) (m : Machine) (t : List ℕ) (x : Ran) (k : Machine) (u : List ℕ) → At-the-end b 0 m t (as-reply (x .reply)) (completed (x .reply)) k u → Reply-within (x .reply) →
+    Ran-as (run-from b 0 m) x k × Traced b m x t u
+answers b m t x k u end within = (
+  record { same = ap (λ n. run-from n 0 m) all-left ∙ end .run-same; pointer-within = within; passes = end .passes },
+  record { size-same = end .trace-size; traced = λ room. sym (ap (λ n. trace-from n m) all-left ∙ end .trace-same room) },
+)
+  where
+    all-left : b ≡ b - 0
+    all-left = omega arith

@@ -1,17 +1,22 @@
-// A run under a budget. It holds the only call of `step`, so that the compiler merges the whole step into its loop.
+// A run under a budget: the loop around the step, and its trace. What a step does not take from the word that passed before
+// leaves the inner loop, so that the compiler lays it out of the way.
 ghost use mathlib.Core.Path.{_≡_};
+ghost use Prim.Native.Nat.{_<_};
+ghost use lib.ListN.{length};
 ghost use Rattle.model.specs.Questions.{start-questions};
 ghost use Rattle.model.specs.Run as Run;
 ghost use Rattle.words.specs.View.{as-pointer, Pointer-within};
+ghost use Rattle.segments.specs.Translation.{Code-right};
 ghost use Rattle.segments.specs.View.{as-machine};
-ghost use Rattle.run.specs.Run.{Noted, Ran-as, Traced};
+ghost use Rattle.processor.specs.Step.{Ready-to-perform, quickly-formed};
+ghost use Rattle.run.specs.Run.{Noted, Ran-as, Traced, Went-as, next-formed};
+use processor::Formed;
+use processor::Prepared;
 use segments::state::After;
 use segments::state::Core;
 use segments::state::End;
-use segments::translate::Dbr;
+use words::descriptor::Descriptor;
 use words::pointer::Pointer;
-use words::pointer::SegmentNumber;
-use words::pointer::WordNumber;
 
 // All that a run answers; the count is that of the completed steps.
 pub enum Reply {
@@ -24,7 +29,13 @@ pub enum Reply {
 pub struct Ran {
     pub reply: Reply,
     pub core: Core,
-    pub prs: [u64; 8],
+}
+
+// Where the quick way led: the core after so many completed steps of the run, and how it ended there.
+pub struct Went {
+    pub core: Core,
+    pub count: u32,
+    pub end: End,
 }
 
 // IPR after a step, at the step's place in the trace; a step past the trace's end leaves it alone.
@@ -39,33 +50,50 @@ fn note(trace: &mut [u64], count: u32, p: Pointer)
     trace[i] = words::pointer::encode(p);
 }
 
-// Questions 1 to 4 were asked by the caller, and hold on from step to step.
-// A trace of at least the budget's length holds IPR after each completed step; a run that needs none lends an empty one.
-pub fn run(core: Core, start: [u64; 8], memory: &mut [u64], budget: u32, trace: &mut [u64]) -> Ran
-    requires { ⌜ start-questions (as-machine core start (now memory)) ≡ 0 ⌝ }
-    ensures { λ x. ⌜ Ran-as (Run.run-from budget 0 (as-machine core start (now (memory .entry)))) x (now (memory .exit)) × Traced budget (as-machine core start (now (memory .entry))) x (now (trace .entry)) (now (trace .exit)) ⌝ }
+// The next instruction by the quick way, while the budget lasts.
+fn next(
+    code: Descriptor,
+    core: Core,
+    prs: &[u16; 24],
+    memory: &[u64],
+    count: u32,
+    budget: u32,
+) -> Prepared
+    requires { ⌜ (start-questions (as-machine core (now prs) (now memory)) ≡ 0) × Code-right (code .0) (core .ipr .ring) (length (now memory)) ⌝ }
+    ensures { λ x. ⌜ next-formed count budget (as-machine core (now (prs .entry)) (now (memory .entry))) x ⌝ }
 {
-    let table = opcodes::table::table();
-    let mut prs = start;
-    // The core field by field: a whole copy would carry the padding of its record along the loop.
+    if budget <= count {
+        return Prepared::No;
+    }
+    processor::quick(code, core, prs, memory)
+}
+
+// Steps from an instruction that is formed, as far as the quick way leads.
+fn go_on(
+    core: Core,
+    code: Descriptor,
+    prs: &mut [u16; 24],
+    memory: &mut [u64],
+    first: u64,
+    at: Pointer,
+    start: u32,
+    budget: u32,
+    trace: &mut [u64],
+) -> Went
+    requires { ⌜ (start-questions (as-machine core (now prs) (now memory)) ≡ 0) × Ready-to-perform (as-machine core (now prs) (now memory)) first at × Code-right (code .0) (core .ipr .ring) (length (now memory)) × (start < budget) ⌝ }
+    ensures { λ x. ⌜ Went-as budget start (as-machine core (now (prs .entry)) (now (memory .entry))) (now (trace .entry)) x (as-machine (x .core) (now (prs .exit)) (now (memory .exit))) (now (trace .exit)) ⌝ }
+{
     let mut x = After {
-        core: Core {
-            a: core.a,
-            dbr: Dbr {
-                address: core.dbr.address,
-                length: core.dbr.length,
-            },
-            ipr: Pointer {
-                ring: core.ipr.ring,
-                segment: SegmentNumber(core.ipr.segment.0),
-                word: WordNumber(core.ipr.word.0),
-            },
-        },
+        core,
+        code,
         end: End::Completed,
     };
-    let mut count: u32 = 0;
-    while count < budget {
-        x = processor::step(x.core, &mut prs, memory, &table);
+    let mut w = first;
+    let mut t = at;
+    let mut count = start;
+    let mut going = true;
+    while going {
+        x = dispatch::perform(x.core, x.code, prs, memory, w, t);
         let end = x.end;
         match end {
             End::Completed => {
@@ -74,27 +102,87 @@ pub fn run(core: Core, start: [u64; 8], memory: &mut [u64], budget: u32, trace: 
             End::Halted => {
                 let after = x.core;
                 note(trace, count, after.ipr);
-                return Ran {
-                    reply: Reply::Halted(count + 1),
+                return Went {
                     core: after,
-                    prs,
+                    count: count + 1,
+                    end: End::Halted,
                 };
             }
-            End::Faulted(n, t) => {
+            End::Faulted(n, p) => {
                 let after = x.core;
-                return Ran {
-                    reply: Reply::Fault(n, count, t),
+                return Went {
                     core: after,
-                    prs,
+                    count,
+                    end: End::Faulted(n, p),
                 };
             }
         }
         count += 1;
+        match next(x.code, x.core, prs, memory, count, budget) {
+            Prepared::No => {
+                going = false;
+            }
+            Prepared::Ready(v, p) => {
+                w = v;
+                t = p;
+            }
+        }
     }
     let after = x.core;
+    Went {
+        core: after,
+        count,
+        end: End::Completed,
+    }
+}
+
+// Questions 1 to 4 were asked by the caller, and hold on from step to step.
+// A trace of at least the budget's length holds IPR after each completed step; a run that needs none lends an empty one.
+pub fn run(
+    core: Core,
+    prs: &mut [u16; 24],
+    memory: &mut [u64],
+    budget: u32,
+    trace: &mut [u64],
+) -> Ran
+    requires { ⌜ start-questions (as-machine core (now prs) (now memory)) ≡ 0 ⌝ }
+    ensures { λ x. ⌜ Ran-as (Run.run-from budget 0 (as-machine core (now (prs .entry)) (now (memory .entry)))) x (as-machine (x .core) (now (prs .exit)) (now (memory .exit))) × Traced budget (as-machine core (now (prs .entry)) (now (memory .entry))) x (now (trace .entry)) (now (trace .exit)) ⌝ }
+{
+    let mut at = core;
+    let mut count: u32 = 0;
+    while count < budget {
+        match processor::form(at, prs, memory) {
+            Formed::Bad(n, t) => {
+                return Ran {
+                    reply: Reply::Fault(n, count, t),
+                    core: at,
+                };
+            }
+            Formed::Ready(w, t, d) => {
+                let y = go_on(at, d, prs, memory, w, t, count, budget, trace);
+                let end = y.end;
+                at = y.core;
+                count = y.count;
+                match end {
+                    End::Completed => {}
+                    End::Halted => {
+                        return Ran {
+                            reply: Reply::Halted(count),
+                            core: at,
+                        };
+                    }
+                    End::Faulted(n, p) => {
+                        return Ran {
+                            reply: Reply::Fault(n, count, p),
+                            core: at,
+                        };
+                    }
+                }
+            }
+        }
+    }
     Ran {
         reply: Reply::Spent(count),
-        core: after,
-        prs,
+        core: at,
     }
 }

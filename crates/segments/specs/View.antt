@@ -1,24 +1,31 @@
 -- The code's state as the model's machine, and what a step's answer says. Assumes nothing: these are definitions.
 use mathlib.Core.Path.{_≡_}
-use mathlib.Core.List.{List, map}
-use Prim.Native.Nat.{ℕ, _+_, _≤_}
-use lib.ListN.{length, getD}
+use mathlib.Core.List.{List, [], _∷_}
+use Prim.Native.Nat.{ℕ, zero, suc, _+_, _%_, _≤_}
+use lib.ListN.{length, getD, drop}
 use Rattle.model.specs.Words as Words
 use Rattle.model.specs.Registers as Registers
 use Rattle.model.specs.Program.{Program, Outcome, faults, completes, halts, execute}
 use Rattle.words.specs.View.{as-pointer}
+use Rattle.words.specs.declared.descriptor.Descriptor.{Descriptor}
+use Rattle.words.specs.declared.pointer.Pointer.{Pointer}
 use Rattle.segments.specs.declared.translate.Dbr.{Dbr}
 use Rattle.segments.specs.declared.state.Core.{Core}
 use Rattle.segments.specs.declared.state.End.{End}
 use Rattle.segments.specs.declared.state.End.the-variants.{Completed, Halted, Faulted}
 use Rattle.segments.specs.declared.state.After.{After}
+use Rattle.segments.specs.Translation.{Code-right}
 
 abbrev pub as-dbr : Dbr → Registers.Dbr
 as-dbr d = record { address = d .address; length = d .length }
 
--- PRs are lent as pointer words
-abbrev pub as-pointers : (prs : List ℕ) → List Words.Pointer
-as-pointers prs = map Words.pointer-in prs
+-- THE PRS are lent as 24 numbers: the lower byte of the first is RING, SEGNO and WORDNO follow
+unfoldable pub pointers-in : (count : ℕ) → (numbers : List ℕ) → List Words.Pointer
+pointers-in zero ns = []
+pointers-in (suc k) ns = record { ring = getD ns 0 0 % 256; segment = getD ns 1 0; word = getD ns 2 0 } ∷ pointers-in k (drop 3 ns)
+
+unfoldable pub as-pointers : (prs : List ℕ) → List Words.Pointer
+as-pointers prs = pointers-in 8 prs
 
 -- the PR of that number, whatever else the registers hold
 unfoldable pub pr-of : (prs : List ℕ) → (number : ℕ) → Words.Pointer
@@ -27,15 +34,18 @@ pr-of prs k = getD (as-pointers prs) k Registers.zero-pointer
 abbrev pub registers-with : Core → (prs : List Words.Pointer) → Registers.Registers
 registers-with c ps = record { a = c .a; dbr = as-dbr (c .dbr); ipr = as-pointer (c .ipr); prs = ps }
 
+abbrev pub machine-with : Core → (prs : List Words.Pointer) → (memory : List ℕ) → Registers.Machine
+machine-with c ps m = record { registers = registers-with c ps; memory = m }
+
 abbrev pub as-registers : Core → (prs : List ℕ) → Registers.Registers
 as-registers c prs = registers-with c (as-pointers prs)
 
 abbrev pub as-machine : Core → (prs memory : List ℕ) → Registers.Machine
-as-machine c prs m = record { registers = as-registers c prs; memory = m }
+as-machine c prs m = machine-with c (as-pointers prs) m
 
 -- registers after a change, whatever the PRs are
-abbrev pub becomes : Core → (Registers.Registers → Registers.Registers) → Core → Type 0
-becomes c f x = (ps : List Words.Pointer) → registers-with x ps ≡ f (registers-with c ps)
+pub record Becomes (c : Core) (f : Registers.Registers → Registers.Registers) (x : Core) : Type 0 where
+  pub registers-same : (ps : List Words.Pointer) → registers-with x ps ≡ f (registers-with c ps)
 
 -- what 2 and 4 give, as far as a step needs it
 pub record Ready (c : Core) (memory : List ℕ) : Type 0 where
@@ -49,21 +59,30 @@ ended m o Completed k = o ≡ completes k
 ended m o Halted k = o ≡ halts k
 ended m o (Faulted n t) k = (o ≡ faults n (as-pointer t)) × (k ≡ m)
 
--- the answer to a program, from these PRs and memory, with what stands in them then
-abbrev pub does : Core → (prs memory : List ℕ) → Program → After → (prs-now memory-now : List ℕ) → Type 0
-does c prs m p x prs-now m-now = ended (as-machine c prs m) (execute (as-machine c prs m) p) (x .end) (as-machine (x .core) prs-now m-now)
+-- the answer to a program, from these PRs and memory, with what stands in them then; a code descriptor that was right is right again
+pub record Does (c : Core) (code : Descriptor) (ps : List Words.Pointer) (m : List ℕ) (p : Program) (x : After) (ps-now : List Words.Pointer) (m-now : List ℕ) : Type 0 where
+  pub ends : ended (machine-with c ps m) (execute (machine-with c ps m) p) (x .end) (machine-with (x .core) ps-now m-now)
+  pub code-kept : Code-right (code .0) (c .ipr .ring) (length m) → Code-right (x .code .0) (x .core .ipr .ring) (length m)
 
 -- the answer to a program that leaves the PRs alone, whatever they are
-abbrev pub does-with-any-prs : Core → (memory : List ℕ) → (Registers.Registers → Program) → After → (memory-now : List ℕ) → Type 0
-does-with-any-prs c m p x m-now = (prs : List ℕ) → does c prs m (p (as-registers c prs)) x prs m-now
+pub record Does-with-any-prs (c : Core) (code : Descriptor) (m : List ℕ) (p : Registers.Registers → Program) (x : After) (m-now : List ℕ) : Type 0 where
+  pub does : (ps : List Words.Pointer) → Does c code ps m (p (registers-with c ps)) x ps m-now
 
--- a step that is complete once IPR has advanced: registers by f, and memory as it was
-pub record Finishes (c : Core) (ps : List Words.Pointer) (f : Registers.Registers → Registers.Registers) (x : After) (ps-now : List Words.Pointer) : Type 0 where
+-- a step that is complete once IPR has advanced, in the same segment
+pub record Completes (c : Core) (code : Descriptor) (x : After) : Type 0 where
   pub completed : x .end ≡ Completed
+  pub code-same : x .code ≡ code
+  pub core-same : Becomes c Registers.advanced (x .core)
+
+-- a step that sets registers by f and asks nothing
+pub record Finishes (c : Core) (code : Descriptor) (ps : List Words.Pointer) (f : Registers.Registers → Registers.Registers) (x : After) (ps-now : List Words.Pointer) : Type 0 where
+  pub completed : x .end ≡ Completed
+  pub code-same : x .code ≡ code
+  pub ring-same : x .core .ipr .ring ≡ c .ipr .ring
   pub registers-same : registers-with (x .core) ps-now ≡ Registers.advanced (f (registers-with c ps))
 
-abbrev pub finishes : Core → (prs : List ℕ) → (Registers.Registers → Registers.Registers) → After → (prs-now : List ℕ) → Type 0
-finishes c prs f x prs-now = Finishes c (as-pointers prs) f x (as-pointers prs-now)
+pub record Finishes-with-any-prs (c : Core) (code : Descriptor) (f : Registers.Registers → Registers.Registers) (x : After) : Type 0 where
+  pub finishes : (ps : List Words.Pointer) → Finishes c code ps f x ps
 
-abbrev pub finishes-with-any-prs : Core → (Registers.Registers → Registers.Registers) → After → Type 0
-finishes-with-any-prs c f x = (ps : List Words.Pointer) → Finishes c ps f x ps
+abbrev pub faulted-after : Core → Descriptor → (number : ℕ) → Pointer → After
+faulted-after c d n t = record { core = c; code = d; end = Faulted n t }

@@ -1,11 +1,11 @@
-// What a step works on by value, and what it answers. The PRs are lent beside it, each as its pointer word.
+// What a step works on by value, and what it answers.
 ghost use mathlib.Core.Path.{_≡_};
-ghost use Prim.Native.Nat.{_<_, max};
-ghost use lib.ListN.{set, getD};
+ghost use Prim.Native.Nat.{max};
 ghost use Rattle.model.specs.Registers as Registers;
-ghost use Rattle.words.specs.View.{as-pointer, Pointer-within, Decoded-pointer};
-ghost use Rattle.segments.specs.View.{as-dbr, as-pointers, becomes};
+ghost use Rattle.words.specs.View.{as-pointer};
+ghost use Rattle.segments.specs.View.{as-dbr, Becomes, Completes, faulted-after};
 use crate::translate::Dbr;
+use words::descriptor::Descriptor;
 use words::pointer::Pointer;
 use words::pointer::WordNumber;
 
@@ -23,8 +23,10 @@ pub enum End {
     Faulted(u8, Pointer),
 }
 
+// The core after a step, and the descriptor that has passed for IPR's ring to execute: the next fetch compares it.
 pub struct After {
     pub core: Core,
+    pub code: Descriptor,
     pub end: End,
 }
 
@@ -36,26 +38,26 @@ pub fn moved(p: Pointer, words: u16) -> Pointer
     Pointer {
         ring: p.ring,
         segment,
-        word: WordNumber(std::num::wrapping_add_u16(p.word.0, words)),
+        word: WordNumber(std::num::wrapping_add_u16((p.word.0 % 65536) as u16, words) as u64),
     }
 }
 
 pub fn with_a(mut core: Core, a: u64) -> Core
-    ensures { λ x. ⌜ becomes core (Registers.with-a a) x ⌝ }
+    ensures { λ x. ⌜ Becomes core (Registers.with-a a) x ⌝ }
 {
     core.a = a;
     core
 }
 
 pub fn with_dbr(mut core: Core, dbr: Dbr) -> Core
-    ensures { λ x. ⌜ becomes core (Registers.with-dbr (as-dbr dbr)) x ⌝ }
+    ensures { λ x. ⌜ Becomes core (Registers.with-dbr (as-dbr dbr)) x ⌝ }
 {
     core.dbr = dbr;
     core
 }
 
 pub fn with_ipr(mut core: Core, p: Pointer) -> Core
-    ensures { λ x. ⌜ becomes core (Registers.with-ipr (as-pointer p)) x ⌝ }
+    ensures { λ x. ⌜ Becomes core (Registers.with-ipr (as-pointer p)) x ⌝ }
 {
     core.ipr = p;
     core
@@ -63,28 +65,36 @@ pub fn with_ipr(mut core: Core, p: Pointer) -> Core
 
 // IPR goes on to the next instruction.
 pub fn advanced(core: Core) -> Core
-    ensures { λ x. ⌜ becomes core Registers.advanced x ⌝ }
+    ensures { λ x. ⌜ Becomes core Registers.advanced x ⌝ }
 {
     let p = core.ipr;
     with_ipr(core, moved(p, 1))
 }
 
-pub fn pr(prs: &[u64; 8], number: usize) -> Pointer
-    requires { ⌜ number < 8 ⌝ }
-    ensures { λ p. ⌜ Decoded-pointer (getD (now (prs .entry)) number 0) p ⌝ }
+// A step that is complete in this segment, IPR moved on.
+pub fn completed(core: Core, code: Descriptor) -> After
+    ensures { λ x. ⌜ Completes core code x ⌝ }
 {
-    words::pointer::decode(prs[number])
+    After {
+        core: advanced(core),
+        code,
+        end: End::Completed,
+    }
 }
 
-pub fn set_pr(prs: &mut [u64; 8], number: usize, p: Pointer)
-    requires { ⌜ (number < 8) × Pointer-within p ⌝ }
-    ensures { λ _. ⌜ as-pointers (now (prs .exit)) ≡ set (as-pointers (now (prs .entry))) number (as-pointer p) ⌝ }
+// A fault leaves the core as it was.
+pub fn faulted(core: Core, code: Descriptor, n: u8, t: Pointer) -> After
+    ensures { λ x. ⌜ x ≡ faulted-after core code n t ⌝ }
 {
-    prs[number] = words::pointer::encode(p);
+    After {
+        core,
+        code,
+        end: End::Faulted(n, t),
+    }
 }
 
 pub fn larger(a: u64, b: u64) -> u64
-    ensures { λ r. ⌜ r ≡ max a b ⌝ }
+    ensures { λ x. ⌜ x ≡ max a b ⌝ }
 {
     if a <= b { b } else { a }
 }

@@ -1,9 +1,10 @@
 // Translation of a pointer through its segment's descriptor: questions 11 to 15.
+ghost use mathlib.Core.Path.{_≡_};
 ghost use Prim.Native.Nat.{_+_, _≤_};
 ghost use lib.ListN.{length};
 ghost use Rattle.words.specs.View.{as-pointer};
 ghost use Rattle.segments.specs.View.{as-dbr};
-ghost use Rattle.segments.specs.Translation.{translated};
+ghost use Rattle.segments.specs.Translation.{descriptor-answer, translated};
 use words::descriptor::Descriptor;
 use words::pointer::Pointer;
 
@@ -19,6 +20,27 @@ pub enum Translated {
     Passed(Descriptor),
 }
 
+// 12 to 14 of a descriptor in a memory of so many words; 0 is a yes to all.
+pub fn descriptor_answer(d: Descriptor, words: usize) -> u8
+    ensures { λ n. ⌜ n ≡ descriptor-answer words (d .0) ⌝ }
+{
+    if !words::descriptor::is_valid(d) {
+        return 12;
+    }
+    let r2 = words::descriptor::r2_of(d);
+    if r2 < words::descriptor::r1_of(d) {
+        return 13;
+    }
+    if words::descriptor::r3_of(d) < r2 {
+        return 13;
+    }
+    let end = words::descriptor::address_of(d) as usize + words::descriptor::length_of(d) as usize;
+    if words < end {
+        return 14;
+    }
+    0
+}
+
 pub fn translate(dbr: Dbr, memory: &[u64], p: Pointer) -> Translated
     requires { ⌜ dbr .address + dbr .length ≤ length (now memory) ⌝ }
     ensures { λ x. ⌜ translated (as-dbr dbr) (now (memory .entry)) (as-pointer p) x ⌝ }
@@ -28,20 +50,12 @@ pub fn translate(dbr: Dbr, memory: &[u64], p: Pointer) -> Translated
         return Translated::Refused(11);
     }
     let at = dbr.address as usize + segment as usize;
-    let d = words::descriptor::decode(memory[at]);
-    if !d.valid {
-        return Translated::Refused(12);
+    let d = Descriptor(memory[at]);
+    let n = descriptor_answer(d, memory.len());
+    if n != 0 {
+        return Translated::Refused(n);
     }
-    if d.r2 < d.r1 {
-        return Translated::Refused(13);
-    }
-    if d.r3 < d.r2 {
-        return Translated::Refused(13);
-    }
-    if memory.len() < d.address as usize + d.length as usize {
-        return Translated::Refused(14);
-    }
-    if d.length <= p.word.0 {
+    if words::descriptor::length_of(d) <= p.word.0 {
         return Translated::Refused(15);
     }
     Translated::Passed(d)

@@ -79,7 +79,7 @@ fn print_refusal(number: u8) {
 }
 
 // Prints a run's listing as its steps complete, and stops where nobody reads it any more.
-fn print_listing(core: Core, start: [u64; 8], memory: &mut [u64], budget: u32)
+fn print_listing(core: Core, start: [u16; 24], memory: &mut [u64], budget: u32)
     requires { ⌜ start-questions (as-machine core start (now memory)) ≡ 0 ⌝ }
 {
     let mut text = io::large_buffer();
@@ -108,7 +108,7 @@ fn print_listing(core: Core, start: [u64; 8], memory: &mut [u64], budget: u32)
 
 // What an image gave: 1 to 4, then its run.
 fn run_image(registers: Registers, memory: &mut [u64], budget: u32) {
-    let x = host::prepare::prepare(registers, memory);
+    let x = machine::prepare(registers, memory);
     if x.number != 0 {
         print_refusal(x.number);
         return;

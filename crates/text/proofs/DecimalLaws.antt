@@ -19,7 +19,7 @@ digits-more : (n v : ℕ) (ds : List ℕ) → 10 ≤ v → digits (suc n) v ds �
 unfolding digits
 digits-more n v ds h = simp (le-ltb v 10 h)
 
-by-ten : {A : Type 0} (v : ℕ) → (v < 10 → A) → (10 ≤ v → A) → A
+pub by-ten : {A : Type 0} (v : ℕ) → (v < 10 → A) → (10 ≤ v → A) → A
 by-ten {A} v f g = by (ltb v 10) refl
   where
     by : (b : Bool) → ltb v 10 ≡ b → A
@@ -79,8 +79,18 @@ length-decimal k v r l h = sym (length-digits k 20 v [] r l h ∙ omega arith)
 pub length-decimal-tenth : (v : ℕ) → 10 ≤ v → v < 4294967296 → length (decimal v) ≡ length (decimal (v / 10)) + 1
 length-decimal-tenth v l h = ap length (decimal-last v l h) ∙ length-append (decimal (v / 10)) ((48 + v % 10) ∷ [])
 
-pub decimal-not-empty : (v : ℕ) → v < 4294967296 → 1 ≤ length (decimal v)
-decimal-not-empty v h = by-ten v (λ l. omega (arith, length-decimal-digit v l)) (λ l. omega (arith, length-decimal-tenth v l h))
+length-digits-least : (n v : ℕ) (ds : List ℕ) → length ds ≤ length (digits n v ds)
+unfolding digits
+length-digits-least zero v ds = omega arith
+length-digits-least (suc n) v ds =
+    by-ten v (λ l. omega (arith, ap length (digits-one n v ds l)))
+    (λ l. omega (arith, ap length (digits-more n v ds l), length-digits-least n (v / 10) ((48 + v % 10) ∷ ds)))
+
+pub decimal-not-empty : (v : ℕ) → 1 ≤ length (decimal v)
+unfolding decimal
+decimal-not-empty v =
+    by-ten v (λ l. omega (arith, length-decimal-digit v l))
+    (λ l. omega (arith, ap length (digits-more 19 v [] l), length-digits-least 19 (v / 10) ((48 + v % 10) ∷ [])))
 
 -- at most so many, by the number's size
 length-digits-most : (k n v : ℕ) (ds : List ℕ) → v < 10 ^ suc k → length (digits n v ds) ≤ suc k + length ds

@@ -11,7 +11,7 @@ use Rattle.text.proofs.DecimalLaws.{decimal-digit, decimal-last, length
 
 module _ (v a i : ℕ) (t z : List ℕ) (small : v < 4294967296) (ends : i ≡ a + length (decimal v)) where
   pub place-positive : 1 ≤ i
-  place-positive = omega (arith, decimal-not-empty v small)
+  place-positive = omega (arith, decimal-not-empty v)
 
   pub place-within : i ≤ length t → i - 1 < length t
   place-within h = omega (arith, place-positive)

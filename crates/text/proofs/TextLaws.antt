@@ -1,11 +1,11 @@
 -- Bytes put into a text, one after another. Assumes nothing.
-use mathlib.Core.Path.{_≡_, refl, sym, ap, _∙_}
-use mathlib.Core.List.{List, [], _∷_, _++_, append-nil}
-use Prim.Native.Nat.{ℕ, suc, _+_, _≤_, _<_}
+use mathlib.Core.Path.{_≡_, refl, sym, ap, ap₂, _∙_}
+use mathlib.Core.List.{List, [], _∷_, _++_, append-nil, append-assoc}
+use Prim.Native.Nat.{ℕ, suc, _+_, _-_, _≤_, _<_}
 use native.Mathlib.Nat.{add-zero}
 use native.Mathlib.Omega.{arith}
 use lib.ListN.{length, take, drop, set, take-append-drop, length-append, length-set}
-use lib.Seq.{length-take-le, take-at, sets, sets-eq, length-sets, set-comm}
+use lib.Seq.{length-take-le, take-at, drop-append-add, drop-drop, sets, sets-eq, length-sets, set-comm}
 use Rattle.text.specs.Text.{placed}
 
 -- what is put is stored byte by byte
@@ -39,6 +39,35 @@ placed-append a xs ys t h =
     ∙ ap (λ u. sets u (a + length xs) ys) (placed-sets a xs t hx)
     ∙ sets-append xs ys t a
     ∙ sym (placed-sets a (xs ++ ys) t h)
+
+-- bytes put where others were just put, and at least as many
+placed-again : (a : ℕ) (xs ys t : List ℕ) → length xs ≤ length ys → a + length ys ≤ length t → placed a ys (placed a xs t) ≡ placed a ys t
+unfolding placed
+placed-again a xs ys t l h =
+    let n : length (take a t) ≡ a = length-take-le a t (omega arith) in
+    let rest : List ℕ = drop (a + length xs) t in
+    let over : ℕ = length ys - length xs in
+    let past : a + length ys ≡ length (take a t ++ xs) + over = omega (arith, length-append (take a t) xs) in
+    let end : a + length xs + over ≡ a + length ys = omega arith in
+    ap₂ (λ front back. front ++ ys ++ back)
+    (ap (take a) (append-assoc (take a t) xs rest) ∙ take-at (take a t) (xs ++ rest) a n)
+    (ap (λ k. drop k (take a t ++ xs ++ rest)) past ∙ drop-append-add (take a t ++ xs) rest over ∙ drop-drop over (a + length xs) t ∙ ap (λ k. drop k t) end)
+
+-- bytes put over the end of those just put
+pub placed-over : (a n : ℕ) (xs ys t : List ℕ) → n ≤ length xs → length xs ≤ n + length ys → a + n + length ys ≤ length t
+    → placed (a + n) ys (placed a xs t) ≡ placed a (take n xs ++ ys) t
+placed-over a n xs ys t l o h =
+    let front : length (take n xs) ≡ n = length-take-le n xs l in
+    let parts : length (take n xs ++ drop n xs) ≡ length xs = ap length (take-append-drop n xs) in
+    let sum : length (take n xs ++ drop n xs) ≡ length (take n xs) + length (drop n xs) = length-append (take n xs) (drop n xs) in
+    let both : length (take n xs ++ ys) ≡ length (take n xs) + length ys = length-append (take n xs) ys in
+    let same : length (placed a (take n xs) t) ≡ length t = length-placed a (take n xs) t (omega arith) in
+    let at-n : a + length (take n xs) ≡ a + n = omega arith in
+    ap (λ zs. placed (a + n) ys (placed a zs t)) (sym (take-append-drop n xs))
+    ∙ ap (placed (a + n) ys) (sym (placed-append a (take n xs) (drop n xs) t (omega arith)) ∙ ap (λ k. placed k (drop n xs) (placed a (take n xs) t)) at-n)
+    ∙ placed-again (a + n) (drop n xs) ys (placed a (take n xs) t) (omega arith) (omega arith)
+    ∙ ap (λ k. placed k ys (placed a (take n xs) t)) (sym at-n)
+    ∙ placed-append a (take n xs) ys t (omega arith)
 
 -- one byte put is one store
 pub placed-byte : (a b : ℕ) (t : List ℕ) → a < length t → placed a (b ∷ []) t ≡ set t a b

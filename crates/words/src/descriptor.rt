@@ -1,48 +1,82 @@
-// Descriptors, and the absolute addresses that translation through one makes.
+// Descriptors, each its word, and the absolute addresses that translation through one makes.
 ghost use mathlib.Core.Path.{_≡_};
-ghost use Prim.Native.Nat.{_+_, _<_};
-ghost use Rattle.words.specs.View.{Decoded-descriptor};
+ghost use Prim.Native.Nat.{_+_, _<_, _≤_};
+ghost use Rattle.model.specs.Words.{descriptor-in};
 use crate::pointer::WordNumber;
 
-pub struct Descriptor {
-    pub address: u64,
-    pub length: u16,
-    pub r1: u64,
-    pub r2: u64,
-    pub r3: u64,
-    pub read: bool,
-    pub write: bool,
-    pub execute: bool,
-    pub valid: bool,
-    pub gate: u16,
-}
+// A word of the descriptor segment.
+pub struct Descriptor(pub u64);
 
 // The place of a word in memory. Its number is private, so that only `absolute_address` makes one.
 pub struct AbsoluteAddress(u64);
 
-pub fn decode(w: u64) -> Descriptor
-    ensures { λ d. ⌜ Decoded-descriptor w d ⌝ }
+pub fn address_of(d: Descriptor) -> u64
+    ensures { λ r. ⌜ (r ≡ descriptor-in (d .0) .address) × (r < 16777216) ⌝ }
 {
-    Descriptor {
-        address: w % 16777216,
-        length: ((w >> 24) % 65536) as u16,
-        r1: (w >> 40) % 8,
-        r2: (w >> 43) % 8,
-        r3: (w >> 46) % 8,
-        read: (w >> 49) % 2 == 1,
-        write: (w >> 50) % 2 == 1,
-        execute: (w >> 51) % 2 == 1,
-        valid: (w >> 52) % 2 == 1,
-        gate: ((w >> 53) % 2048) as u16,
-    }
+    d.0 % 16777216
+}
+
+pub fn length_of(d: Descriptor) -> u64
+    ensures { λ r. ⌜ (r ≡ descriptor-in (d .0) .length) × (r < 65536) ⌝ }
+{
+    (d.0 >> 24) % 65536
+}
+
+pub fn r1_of(d: Descriptor) -> u64
+    ensures { λ r. ⌜ (r ≡ descriptor-in (d .0) .r1) × (r ≤ 7) ⌝ }
+{
+    (d.0 >> 40) % 8
+}
+
+pub fn r2_of(d: Descriptor) -> u64
+    ensures { λ r. ⌜ (r ≡ descriptor-in (d .0) .r2) × (r ≤ 7) ⌝ }
+{
+    (d.0 >> 43) % 8
+}
+
+pub fn r3_of(d: Descriptor) -> u64
+    ensures { λ r. ⌜ r ≡ descriptor-in (d .0) .r3 ⌝ }
+{
+    (d.0 >> 46) % 8
+}
+
+// R, W, E and V.
+pub fn is_read_on(d: Descriptor) -> bool
+    ensures { λ r. ⌜ r ≡ descriptor-in (d .0) .read ⌝ }
+{
+    (d.0 >> 49) % 2 == 1
+}
+
+pub fn is_write_on(d: Descriptor) -> bool
+    ensures { λ r. ⌜ r ≡ descriptor-in (d .0) .write ⌝ }
+{
+    (d.0 >> 50) % 2 == 1
+}
+
+pub fn is_execute_on(d: Descriptor) -> bool
+    ensures { λ r. ⌜ r ≡ descriptor-in (d .0) .execute ⌝ }
+{
+    (d.0 >> 51) % 2 == 1
+}
+
+pub fn is_valid(d: Descriptor) -> bool
+    ensures { λ r. ⌜ r ≡ descriptor-in (d .0) .valid ⌝ }
+{
+    (d.0 >> 52) % 2 == 1
+}
+
+pub fn gate_of(d: Descriptor) -> u64
+    ensures { λ r. ⌜ r ≡ descriptor-in (d .0) .gate ⌝ }
+{
+    (d.0 >> 53) % 2048
 }
 
 // The address of a word of a segment, through the segment's descriptor.
 pub fn absolute_address(d: Descriptor, word: WordNumber) -> AbsoluteAddress
-    requires { ⌜ d .address < 16777216 ⌝ }
-    ensures { λ a. ⌜ a .0 ≡ d .address + word .0 ⌝ }
+    requires { ⌜ word .0 < 65536 ⌝ }
+    ensures { λ a. ⌜ a .0 ≡ descriptor-in (d .0) .address + word .0 ⌝ }
 {
-    AbsoluteAddress(d.address + word.0 as u64)
+    AbsoluteAddress(address_of(d) + word.0)
 }
 
 // Where in memory an address is.

@@ -5,9 +5,9 @@ ghost use Rattle.words.specs.View.{as-pointer, Pointer-within, Decoded-p
 
 pub struct SegmentNumber(pub u64);
 
-pub struct WordNumber(pub u16);
+pub struct WordNumber(pub u64);
 
-// RING, SEGNO and WORDNO, as IPR, a PR and TPR hold them.
+// RING, SEGNO and WORDNO, as IPR, a PR and TPR hold them. All are wide, so that a loop carries no padding.
 pub struct Pointer {
     pub ring: u64,
     pub segment: SegmentNumber,
@@ -21,7 +21,7 @@ pub fn decode(w: u64) -> Pointer
     Pointer {
         ring: (w >> 28) % 8,
         segment: SegmentNumber((w >> 16) % 4096),
-        word: WordNumber((w % 65536) as u16),
+        word: WordNumber(w % 65536),
     }
 }
 
@@ -37,5 +37,5 @@ pub fn encode(p: Pointer) -> u64
     requires { ⌜ Pointer-within p ⌝ }
     ensures { λ w. ⌜ w ≡ pointer-word (as-pointer p) ⌝ }
 {
-    p.word.0 as u64 + 65536 * p.segment.0 + 268435456 * p.ring
+    p.word.0 + 65536 * p.segment.0 + 268435456 * p.ring
 }

@@ -1,4 +1,5 @@
 -- `effective` meets its contract. Assumes nothing.
+use mathlib.Core.Bool.{true}
 use mathlib.Core.Path.{_≡_}
 use Prim.Native.Nat.{_≤_}
 use borrow.Author.Needs.{needs}
@@ -10,13 +11,13 @@ use Rattle.segments.specs.View.{as-dbr}
 use Rattle.words.specs.View.{as-pointer, Pointer-within}
 
 abbrev Inv-loop : tie.InvT-loop
-Inv-loop dbr memory indirect left₀ more₀ t₀ left more t =
+Inv-loop dbr memory left₀ more₀ t₀ left more t =
     (left ≤ 64)
-    × (through left more (as-dbr dbr) memory (as-pointer t) ≡ through 64 indirect (as-dbr dbr) memory (as-pointer t₀))
+    × (through left more (as-dbr dbr) memory (as-pointer t) ≡ through 64 true (as-dbr dbr) memory (as-pointer t₀))
     × Pointer-within t
 
 abbrev μ-loop : tie.MeasureT-loop
-μ-loop dbr memory indirect left₀ more₀ t₀ left more t = left
+μ-loop dbr memory left₀ more₀ t₀ left more t = left
 
 loop-holds : tie.Need-loop-holds Inv-loop μ-loop
 loop-holds c = search (needs, chains)
@@ -24,8 +25,8 @@ loop-holds c = search (needs, chains)
 returns : tie.Need-returns Inv-loop μ-loop
 returns c = search (needs, chains)
 
-pointer-requires : tie.Need-pointer-requires Inv-loop μ-loop
-pointer-requires c κs = search (needs, chains)
+read-requires : tie.Need-read-requires Inv-loop μ-loop
+read-requires c κs = search (needs, chains)
 
 enum-known-n : tie.Need-enum-known-n Inv-loop μ-loop
 enum-known-n c = search (needs, chains)
@@ -33,8 +34,14 @@ enum-known-n c = search (needs, chains)
 returns-2 : tie.Need-returns-2 Inv-loop μ-loop
 returns-2 c = search (needs, chains)
 
-enum-known-p : tie.Need-enum-known-p Inv-loop μ-loop
-enum-known-p c = search (needs, chains)
+enum-known-d : tie.Need-enum-known-d Inv-loop μ-loop
+enum-known-d c = search (needs, chains)
+
+next-address-requires : tie.Need-next-address-requires Inv-loop μ-loop
+next-address-requires c κs = search (needs, chains)
+
+is-indirect-requires : tie.Need-is-indirect-requires Inv-loop μ-loop
+is-indirect-requires c κs = search (needs, chains)
 
 sub-left : tie.Need-sub-left Inv-loop μ-loop
 sub-left c = search (needs, chains)
@@ -56,10 +63,12 @@ effective-spec =
     μ-loop
     loop-holds
     returns
-    pointer-requires
+    read-requires
     enum-known-n
     returns-2
-    enum-known-p
+    enum-known-d
+    next-address-requires
+    is-indirect-requires
     sub-left
     loop-less
     loop-again

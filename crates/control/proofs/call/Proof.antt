@@ -1,45 +1,51 @@
 -- `call` meets its contract. Assumes nothing.
+use mathlib.Core.Path.{refl}
 use borrow.Author.Needs.{needs}
-use Rattle.control.proofs.ControlLaws.{calls}
+use Rattle.control.proofs.MoveLaws.{calls, call-refused, call-enters}
 use Rattle.control.proofs.call.Statement.{statement}
 use Rattle.control.proofs.call.Tie as tie
-use Rattle.segments.specs.View.{as-pointers, ended}
 
-check-call-requires : tie.Need-check-call-requires
-check-call-requires c κs = search needs
+look-requires : tie.Need-look-requires
+look-requires c κs = search (needs, calls)
 
 enum-known-n : tie.Need-enum-known-n
-enum-known-n c = search needs
+enum-known-n c = search (needs, calls)
 
-enum-known-ring : tie.Need-enum-known-ring
-enum-known-ring c = search needs
+faulted-requires : tie.Need-faulted-requires
+faulted-requires c κs = search (needs, calls)
+
+enum-known-d : tie.Need-enum-known-d
+enum-known-d c = search (needs, calls)
+
+new-ring-requires : tie.Need-new-ring-requires
+new-ring-requires c κs = search (needs, calls)
 
 stack-base-requires : tie.Need-stack-base-requires
-stack-base-requires c κs = search needs
+stack-base-requires c κs = search (needs, calls)
 
 set-pr-requires : tie.Need-set-pr-requires
 set-pr-requires c κs = search (needs, calls)
 
-with-ipr-requires : tie.Need-with-ipr-requires
-with-ipr-requires c κs = search needs
+entered-requires : tie.Need-entered-requires
+entered-requires c κs = search (needs, calls)
 
 returns : tie.Need-returns
-unfolding ended
-returns c = search (needs, calls)
+returns c = call-refused _ _ _ _ _ _ (c .before .before .before .before .look .ensures) _ _ _ (c .before .before .n .given .1) (c .faulted .ensures) refl
 
 returns-2 : tie.Need-returns-2
-unfolding ended
-returns-2 c = search (needs, calls, c .with-ipr .ensures (as-pointers (c .before .set-pr .last .0)))
+returns-2 c = call-enters _ _ _ _ _ _ (c .before .before .before .before .before .before .before .before .look .ensures) _ _ _ _ _ (c .before .before .before .before .before .before .d .given .1) (c .before .before .before .before .new-ring .ensures .0) (c .before .before .stack-base .ensures .0) (c .before .set-pr .ensures) _ (c .entered .ensures) refl
 
 pub call-spec : {M : Type 1} → statement M
 call-spec =
     tie.close
     (tie.spec
-    check-call-requires
+    look-requires
     enum-known-n
-    enum-known-ring
+    faulted-requires
+    enum-known-d
+    new-ring-requires
     stack-base-requires
     set-pr-requires
-    with-ipr-requires
+    entered-requires
     returns
     returns-2)

@@ -8,13 +8,10 @@ use Rattle.control.proofs.raise_rings.Tie as tie
 use Rattle.segments.specs.View.{as-pointers}
 
 abbrev Inv-loop : tie.InvT-loop
-Inv-loop prs₀ ring count k₀ prs k = (k ≤ count) × (as-pointers prs ≡ raised-first ring k (as-pointers prs₀))
+Inv-loop prs₀ ring k₀ prs k = (k ≤ 8) × (as-pointers prs ≡ raised-first ring k (as-pointers prs₀))
 
 abbrev μ-loop : tie.MeasureT-loop
-μ-loop prs₀ ring count k₀ prs k = count - k
-
-pr-count-requires : tie.Need-pr-count-requires Inv-loop μ-loop
-pr-count-requires c κs = search (needs, raises)
+μ-loop prs₀ ring k₀ prs k = 8 - k
 
 loop-holds : tie.Need-loop-holds Inv-loop μ-loop
 loop-holds c = search (needs, raises)
@@ -46,7 +43,6 @@ raise-rings-spec =
     (tie.spec
     Inv-loop
     μ-loop
-    pr-count-requires
     loop-holds
     pr-requires
     larger-requires

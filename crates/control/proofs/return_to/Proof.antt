@@ -1,50 +1,43 @@
 -- `return_to` meets its contract. Assumes nothing.
+use mathlib.Core.Path.{refl}
 use borrow.Author.Needs.{needs}
-use Rattle.control.proofs.ControlLaws.{returning}
+use Rattle.control.proofs.MoveLaws.{returning, return-refused, return-enters}
 use Rattle.control.proofs.return_to.Statement.{statement}
 use Rattle.control.proofs.return_to.Tie as tie
-use Rattle.segments.specs.View.{as-pointers, ended}
 
-translate-requires : tie.Need-translate-requires
-translate-requires c κs = search needs
+look-requires : tie.Need-look-requires
+look-requires c κs = search (needs, returning)
 
 enum-known-n : tie.Need-enum-known-n
-enum-known-n c = search needs
+enum-known-n c = search (needs, returning)
+
+faulted-requires : tie.Need-faulted-requires
+faulted-requires c κs = search (needs, returning)
 
 enum-known-d : tie.Need-enum-known-d
-enum-known-d c = search needs
-
-is-executable-requires : tie.Need-is-executable-requires
-is-executable-requires c κs = search needs
-
-returns : tie.Need-returns
-unfolding ended
-returns c = search (needs, returning)
+enum-known-d c = search (needs, returning)
 
 raise-rings-requires : tie.Need-raise-rings-requires
-raise-rings-requires c κs = search needs
+raise-rings-requires c κs = search (needs, returning)
 
-with-ipr-requires : tie.Need-with-ipr-requires
-with-ipr-requires c κs = search needs
+entered-requires : tie.Need-entered-requires
+entered-requires c κs = search (needs, returning)
+
+returns : tie.Need-returns
+returns c = return-refused _ _ _ _ _ _ (c .before .before .before .before .look .ensures) _ _ _ (c .before .before .n .given .1) (c .faulted .ensures) refl
 
 returns-2 : tie.Need-returns-2
-unfolding ended
-returns-2 c = search (needs, returning)
-
-returns-3 : tie.Need-returns-3
-unfolding ended
-returns-3 c = search (needs, returning, c .with-ipr .ensures (as-pointers (c .before .raise-rings .last .0)))
+returns-2 c = return-enters _ _ _ _ _ _ (c .before .before .before .before .before .before .look .ensures) _ _ _ (c .before .before .before .before .d .given .1) (c .before .raise-rings .ensures) _ (c .entered .ensures) refl
 
 pub return-to-spec : {M : Type 1} → statement M
 return-to-spec =
     tie.close
     (tie.spec
-    translate-requires
+    look-requires
     enum-known-n
+    faulted-requires
     enum-known-d
-    is-executable-requires
-    returns
     raise-rings-requires
-    with-ipr-requires
-    returns-2
-    returns-3)
+    entered-requires
+    returns
+    returns-2)

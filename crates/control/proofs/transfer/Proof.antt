@@ -1,68 +1,51 @@
 -- `transfer` meets its contract. Assumes nothing.
+use mathlib.Core.Path.{refl}
 use borrow.Author.Needs.{needs}
-use Rattle.control.proofs.ControlLaws.{transfers}
+use Rattle.control.proofs.MoveLaws.{moves, transfer-not-taken, transfer-refused, transfer-passes}
 use Rattle.control.proofs.transfer.Statement.{statement}
 use Rattle.control.proofs.transfer.Tie as tie
-use Rattle.segments.specs.View.{as-pointers, ended}
-
-opcode-requires : tie.Need-opcode-requires
-opcode-requires c κs = search needs
 
 is-taken-requires : tie.Need-is-taken-requires
-is-taken-requires c κs = search needs
+is-taken-requires c κs = search (needs, moves)
 
-advanced-requires : tie.Need-advanced-requires
-advanced-requires c κs = search needs
+completed-requires : tie.Need-completed-requires
+completed-requires c κs = search (needs, moves)
 
 returns : tie.Need-returns
-unfolding ended
-returns c = λ prs. search (needs, transfers, c .advanced .ensures (as-pointers prs))
+returns c = transfer-not-taken _ _ _ _ _ _ (c .before .before .is-taken .ensures) _ (c .before .if1 .taken) (c .completed .ensures)
 
-translate-requires : tie.Need-translate-requires
-translate-requires c κs = search needs
+look-requires : tie.Need-look-requires
+look-requires c κs = search (needs, moves)
 
 enum-known-n : tie.Need-enum-known-n
-enum-known-n c = search needs
+enum-known-n c = search (needs, moves)
+
+faulted-requires : tie.Need-faulted-requires
+faulted-requires c κs = search (needs, moves)
 
 enum-known-d : tie.Need-enum-known-d
-enum-known-d c = search needs
+enum-known-d c = search (needs, moves)
+
+entered-requires : tie.Need-entered-requires
+entered-requires c κs = search (needs, moves)
 
 returns-2 : tie.Need-returns-2
-unfolding ended
-returns-2 c = search (needs, transfers)
-
-is-executable-requires : tie.Need-is-executable-requires
-is-executable-requires c κs = search needs
+returns-2 c = transfer-refused _ _ _ _ _ _ (c .before .before .before .before .before .before .before .before .is-taken .ensures) _ (c .before .before .before .before .before .before .before .if1 .left) _ (c .before .before .before .before .look .ensures) _ _ (c .before .before .n .given .1) (c .faulted .ensures) refl
 
 returns-3 : tie.Need-returns-3
-unfolding ended
-returns-3 c = search (needs, transfers)
-
-with-ipr-requires : tie.Need-with-ipr-requires
-with-ipr-requires c κs = search needs
-
-returns-4 : tie.Need-returns-4
-unfolding ended
-returns-4 c = search (needs, transfers)
-
-returns-5 : tie.Need-returns-5
-unfolding ended
-returns-5 c = λ prs. search (needs, transfers, c .with-ipr .ensures (as-pointers prs))
+returns-3 c = transfer-passes _ _ _ _ _ _ (c .before .before .before .before .before .before .before .before .is-taken .ensures) _ (c .before .before .before .before .before .before .before .if1 .left) _ (c .before .before .before .before .look .ensures) _ _ (c .before .before .d .given .1) (c .entered .ensures) refl
 
 pub transfer-spec : {M : Type 1} → statement M
 transfer-spec =
     tie.close
     (tie.spec
-    opcode-requires
     is-taken-requires
-    advanced-requires
+    completed-requires
     returns
-    translate-requires
+    look-requires
     enum-known-n
+    faulted-requires
     enum-known-d
+    entered-requires
     returns-2
-    is-executable-requires
-    returns-3
-    with-ipr-requires
-    returns-4
-    returns-5)
+    returns-3)

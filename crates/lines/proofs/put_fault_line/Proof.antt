@@ -14,20 +14,8 @@ put-named-requires c κs = search needs
 put-number-requires : tie.Need-put-number-requires
 put-number-requires c κs = search needs
 
-put-digit-requires : tie.Need-put-digit-requires
-put-digit-requires c κs = search needs
-
-cast-put-number : tie.Need-cast-put-number
-cast-put-number c = search needs
-
-put-number-requires-2 : tie.Need-put-number-requires-2
-put-number-requires-2 c κs = search needs
-
-cast-put-number-2 : tie.Need-cast-put-number-2
-cast-put-number-2 c = search needs
-
-put-number-requires-3 : tie.Need-put-number-requires-3
-put-number-requires-3 c κs = search needs
+put-pointer-requires : tie.Need-put-pointer-requires
+put-pointer-requires c κs = search needs
 
 same-length : tie.Need-same-length
 same-length c = search needs
@@ -43,10 +31,6 @@ put-fault-line-spec =
     slice-aggregate-put-named
     put-named-requires
     put-number-requires
-    put-digit-requires
-    cast-put-number
-    put-number-requires-2
-    cast-put-number-2
-    put-number-requires-3
+    put-pointer-requires
     same-length
     returns)

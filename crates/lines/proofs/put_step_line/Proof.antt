@@ -1,42 +1,25 @@
 -- `put_step_line` meets its contract. Assumes nothing.
 use borrow.Author.Needs.{needs}
-use Rattle.lines.proofs.LineLaws.{step-line-laws}
+use Rattle.lines.proofs.KeptLaws.{kept-line-laws}
 use Rattle.lines.proofs.put_step_line.Statement.{statement}
 use Rattle.lines.proofs.put_step_line.Tie as tie
 
-put-number-requires : tie.Need-put-number-requires
-put-number-requires c κs = search needs
+put-tens-requires : tie.Need-put-tens-requires
+put-tens-requires c κs = search needs
 
-put-digit-requires : tie.Need-put-digit-requires
-put-digit-requires c κs = search needs
+add-put-last-digit : tie.Need-add-put-last-digit
+add-put-last-digit c = search needs
 
-cast-put-number : tie.Need-cast-put-number
-cast-put-number c = search needs
-
-put-number-requires-2 : tie.Need-put-number-requires-2
-put-number-requires-2 c κs = search needs
-
-cast-put-number-2 : tie.Need-cast-put-number-2
-cast-put-number-2 c = search needs
-
-put-number-requires-3 : tie.Need-put-number-requires-3
-put-number-requires-3 c κs = search needs
+put-last-digit-requires : tie.Need-put-last-digit-requires
+put-last-digit-requires c κs = search needs
 
 same-length : tie.Need-same-length
 same-length c = search needs
 
 returns : tie.Need-returns
-returns c = search (needs, step-line-laws)
+returns c = search (needs, kept-line-laws)
 
 pub put-step-line-spec : {M : Type 1} → statement M
 put-step-line-spec =
     tie.close
-    (tie.spec
-    put-number-requires
-    put-digit-requires
-    cast-put-number
-    put-number-requires-2
-    cast-put-number-2
-    put-number-requires-3
-    same-length
-    returns)
+    (tie.spec put-tens-requires add-put-last-digit put-last-digit-requires same-length returns)

@@ -1,42 +1,47 @@
 -- `run` meets its contract. Assumes nothing.
+use mathlib.Core.Path.{sym, _∙_}
 use borrow.Author.Needs.{needs}
-use Rattle.machine.proofs.ByValueLaws.{runs-by-value}
+use Rattle.machine.proofs.AnswerLaws.{refused-whole, run-whole}
 use Rattle.machine.proofs.run.Statement.{statement}
 use Rattle.machine.proofs.run.Tie as tie
 
-prepare-requires : tie.Need-prepare-requires
-prepare-requires c κs = search needs
+start-answer-requires : tie.Need-start-answer-requires
+start-answer-requires c κs = search needs
+
+answer-of-requires : tie.Need-answer-of-requires
+answer-of-requires c κs = search needs
 
 same-length : tie.Need-same-length
 same-length c = search needs
 
 returns : tie.Need-returns
-returns c = search (needs, runs-by-value)
-
-slice-aggregate-run : tie.Need-slice-aggregate-run
-slice-aggregate-run c = search needs
+returns c = refused-whole _ _ _ _ _ _ (c .before .before .start-answer .ensures) _ (c .before .if1 .taken) (c .answer-of .ensures)
 
 run-requires : tie.Need-run-requires
-run-requires c κs = search (needs, runs-by-value)
+run-requires c κs = sym (c .before .before .before .before .start-answer .ensures) ∙ (c .before .before .before .if1 .left)
 
-record-of-requires : tie.Need-record-of-requires
-record-of-requires c κs = search (needs, runs-by-value)
+answer-of-requires-2 : tie.Need-answer-of-requires-2
+answer-of-requires-2 c κs = c .before .before .before .before .before .run .ensures .0 .pointer-within
 
 same-length-2 : tie.Need-same-length-2
 same-length-2 c = search needs
 
+same-length-3 : tie.Need-same-length-3
+same-length-3 c = search needs
+
 returns-2 : tie.Need-returns-2
-returns-2 c = search (needs, runs-by-value)
+returns-2 c = run-whole _ _ _ _ _ _ (c .before .before .before .before .before .before .before .before .before .before .before .start-answer .ensures) _ (c .before .before .before .before .before .before .before .before .before .before .if1 .left) _ _ _ _ (c .before .before .before .before .before .before .run .ensures .0) (c .before .before .before .before .before .before .run .ensures .1) (c .answer-of2 .ensures)
 
 pub run-spec : {M : Type 1} → statement M
 run-spec =
     tie.close
     (tie.spec
-    prepare-requires
+    start-answer-requires
+    answer-of-requires
     same-length
     returns
-    slice-aggregate-run
     run-requires
-    record-of-requires
+    answer-of-requires-2
     same-length-2
+    same-length-3
     returns-2)

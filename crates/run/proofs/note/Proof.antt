@@ -8,16 +8,16 @@ returns : tie.Need-returns
 returns c = search (needs, notes)
 
 encode-requires : tie.Need-encode-requires
-encode-requires c κs = search needs
+encode-requires c κs = search (needs, notes)
 
 mul-trace : tie.Need-mul-trace
-mul-trace c = search needs
+mul-trace c = search (needs, notes)
 
 slice-write-trace : tie.Need-slice-write-trace
-slice-write-trace c = search needs
+slice-write-trace c = search (needs, notes)
 
 same-length : tie.Need-same-length
-same-length c = search needs
+same-length c = search (needs, notes)
 
 returns-2 : tie.Need-returns-2
 returns-2 c = search (needs, notes)

@@ -1,88 +1,86 @@
 -- `run` meets its contract. Assumes nothing.
-use mathlib.Core.Path.{_≡_}
-use Prim.Native.Nat.{_-_, _≤_}
-use lib.ListN.{length}
+use mathlib.Core.Path.{refl}
+use Prim.Native.Nat.{_-_}
+use native.Mathlib.Omega.{arith}
 use borrow.Author.Needs.{needs}
-use Rattle.model.specs.Questions.{start-questions}
-use Rattle.model.specs.Run.{run-from}
-use Rattle.run.proofs.RunLaws.{runs}
-use Rattle.run.proofs.TraceLaws.{Kept, traces}
+use Rattle.run.proofs.RunLaws.{prs-in-range, ready-passing, way-starts, way-faults, way-joins, way-ends, way-spent, fault-within, answers}
 use Rattle.run.proofs.run.Statement.{statement}
 use Rattle.run.proofs.run.Tie as tie
+use Rattle.run.specs.Run.{On-the-way}
 use Rattle.segments.specs.View.{as-machine}
 
 abbrev Inv-loop : tie.InvT-loop
-Inv-loop memory₀ budget trace₀ table prs₀ x₀ count₀ memory trace prs x count =
-    (count ≤ budget) × (length memory ≡ length memory₀) × (length trace ≡ length trace₀) × (start-questions (as-machine (x .core) prs memory) ≡ 0)
-    × (run-from (budget - count) count (as-machine (x .core) prs memory) ≡ run-from budget 0 (as-machine (x₀ .core) prs₀ memory₀))
-    × Kept budget count (as-machine (x₀ .core) prs₀ memory₀) (as-machine (x .core) prs memory) trace
+Inv-loop prs₀ memory₀ budget trace₀ at₀ count₀ prs memory trace at count =
+    On-the-way budget 0 (as-machine at₀ prs₀ memory₀) trace₀ count (as-machine at prs memory) trace
 
 abbrev μ-loop : tie.MeasureT-loop
-μ-loop memory₀ budget trace₀ table prs₀ x₀ count₀ memory trace prs x count = budget - count
-
-table-requires : tie.Need-table-requires Inv-loop μ-loop
-table-requires c κs = search (needs, runs, traces)
+μ-loop prs₀ memory₀ budget trace₀ at₀ count₀ prs memory trace at count = budget - count
 
 loop-holds : tie.Need-loop-holds Inv-loop μ-loop
-loop-holds c = search (needs, runs, traces)
+loop-holds c = way-starts _ _ _ _ (omega arith) (c .before .before .pre)
 
-step-requires : tie.Need-step-requires Inv-loop μ-loop
-step-requires c κs = search (needs, runs, traces)
+form-requires : tie.Need-form-requires Inv-loop μ-loop
+form-requires c κs = (ready-passing _ _ _ (c .before .before .before .loop .inv .passes), prs-in-range _ _ _ (c .before .before .before .loop .inv .passes))
 
-enum-told : tie.Need-enum-told Inv-loop μ-loop
-enum-told c = search (needs, runs, traces)
-
-note-requires : tie.Need-note-requires Inv-loop μ-loop
-note-requires c κs = search (needs, runs, traces)
-
-enum-told-2 : tie.Need-enum-told-2 Inv-loop μ-loop
-enum-told-2 c = search (needs, runs, traces)
-
-note-requires-2 : tie.Need-note-requires-2 Inv-loop μ-loop
-note-requires-2 c κs = search (needs, runs, traces)
-
-add-t34 : tie.Need-add-t34 Inv-loop μ-loop
-add-t34 c = search (needs, runs, traces)
+enum-known-n : tie.Need-enum-known-n Inv-loop μ-loop
+enum-known-n c = search needs
 
 same-length : tie.Need-same-length Inv-loop μ-loop
-same-length c = search (needs, runs, traces)
+same-length c = search (needs, c .before .before .before .before .before .before .before .loop .inv .size-same, c .before .before .before .before .before .before .before .loop .inv .trace-size)
 
 same-length-2 : tie.Need-same-length-2 Inv-loop μ-loop
-same-length-2 c = search (needs, runs, traces)
+same-length-2 c = search (needs, c .before .before .before .before .before .before .before .loop .inv .size-same, c .before .before .before .before .before .before .before .loop .inv .trace-size)
 
 returns : tie.Need-returns Inv-loop μ-loop
-returns c = (search (needs, runs), search (needs, traces))
+returns c = let q = rw (c .before .n .given .1) at (c .before .before .before .form .ensures) in answers _ _ _ _ _ _ (way-faults _ _ _ _ _ _ _ (c .before .before .before .before .before .before .before .loop .inv) (c .before .before .before .before .before .before .loop-test .taken) _ _ _ q refl) (fault-within _ _ _ (c .before .before .before .before .before .before .before .loop .inv .passes) q)
 
-enum-known-end : tie.Need-enum-known-end Inv-loop μ-loop
-enum-known-end c = search (needs, runs, traces)
+enum-known-w : tie.Need-enum-known-w Inv-loop μ-loop
+enum-known-w c = search needs
 
-same-length-3 : tie.Need-same-length-3 Inv-loop μ-loop
-same-length-3 c = search (needs, runs, traces)
+go-on-requires : tie.Need-go-on-requires Inv-loop μ-loop
+go-on-requires c κs = let q = rw (c .before .before .before .before .w .given .1) at (c .before .before .before .before .before .before .form .ensures) in (c .before .before .before .before .before .before .before .before .before .before .loop .inv .passes, q .0, q .1, c .before .before .before .before .before .before .before .before .before .loop-test .taken)
 
-same-length-4 : tie.Need-same-length-4 Inv-loop μ-loop
-same-length-4 c = search (needs, runs, traces)
-
-returns-2 : tie.Need-returns-2 Inv-loop μ-loop
-returns-2 c = (search (needs, runs), search (needs, traces))
-
-add-count : tie.Need-add-count Inv-loop μ-loop
-add-count c = search (needs, runs, traces)
+enum-told : tie.Need-enum-told Inv-loop μ-loop
+enum-told c = search needs
 
 loop-less : tie.Need-loop-less Inv-loop μ-loop
-loop-less c = search (needs, runs, traces)
+loop-less c = let q = rw (c .enum-told .given .1) at (c .before .before .before .before .before .before .before .go-on .ensures .led) in omega (arith, q .0 .within-budget, q .1, c .before .before .before .before .before .before .before .before .before .before .before .before .before .before .before .before .before .loop-test .taken)
 
 loop-again : tie.Need-loop-again Inv-loop μ-loop
-loop-again c =
-    (search (needs, runs, traces), search (needs, runs, traces), search (needs, runs, traces), search (needs, runs, traces), search (needs, runs, traces), search (needs, runs, traces))
+loop-again c = way-joins _ _ _ _ _ _ _ (c .before .before .before .before .before .before .before .before .before .before .before .before .before .before .before .before .before .before .loop .inv) _ _ _ ((rw (c .enum-told .given .1) at (c .before .before .before .before .before .before .before .go-on .ensures .led)) .0)
+
+enum-told-2 : tie.Need-enum-told-2 Inv-loop μ-loop
+enum-told-2 c = search needs
+
+same-length-3 : tie.Need-same-length-3 Inv-loop μ-loop
+same-length-3 c = search (needs, c .before .before .before .before .before .before .before .before .before .before .before .before .before .before .before .before .before .before .loop .inv .size-same, c .before .before .before .before .before .before .before .before .before .before .before .before .before .before .before .before .before .before .loop .inv .trace-size)
+
+same-length-4 : tie.Need-same-length-4 Inv-loop μ-loop
+same-length-4 c = search (needs, c .before .before .before .before .before .before .before .before .before .before .before .before .before .before .before .before .before .before .loop .inv .size-same, c .before .before .before .before .before .before .before .before .before .before .before .before .before .before .before .before .before .before .loop .inv .trace-size)
+
+returns-2 : tie.Need-returns-2 Inv-loop μ-loop
+returns-2 c = answers _ _ _ _ _ _ (way-ends _ _ _ _ _ _ _ (c .before .before .before .before .before .before .before .before .before .before .before .before .before .before .before .before .before .before .loop .inv) _ _ _ _ (rw (c .enum-told2 .given .1) at (c .before .before .before .before .before .before .before .go-on .ensures .led))) tt
+
+enum-known-end : tie.Need-enum-known-end Inv-loop μ-loop
+enum-known-end c = search needs
 
 same-length-5 : tie.Need-same-length-5 Inv-loop μ-loop
-same-length-5 c = search (needs, runs, traces)
+same-length-5 c = search (needs, c .before .before .before .before .before .before .before .before .before .before .before .before .before .before .before .before .before .before .before .loop .inv .size-same, c .before .before .before .before .before .before .before .before .before .before .before .before .before .before .before .before .before .before .before .loop .inv .trace-size)
 
 same-length-6 : tie.Need-same-length-6 Inv-loop μ-loop
-same-length-6 c = search (needs, runs, traces)
+same-length-6 c = search (needs, c .before .before .before .before .before .before .before .before .before .before .before .before .before .before .before .before .before .before .before .loop .inv .size-same, c .before .before .before .before .before .before .before .before .before .before .before .before .before .before .before .before .before .before .before .loop .inv .trace-size)
 
 returns-3 : tie.Need-returns-3 Inv-loop μ-loop
-returns-3 c = search (needs, runs, traces)
+returns-3 c = let q = rw (c .before .end .given .1) at (c .before .before .before .before .before .before .before .before .go-on .ensures .led) in answers _ _ _ _ _ _ (way-ends _ _ _ _ _ _ _ (c .before .before .before .before .before .before .before .before .before .before .before .before .before .before .before .before .before .before .before .loop .inv) _ _ _ _ (q .0)) (q .1)
+
+same-length-7 : tie.Need-same-length-7 Inv-loop μ-loop
+same-length-7 c = search (needs, c .before .loop .inv .size-same, c .before .loop .inv .trace-size)
+
+same-length-8 : tie.Need-same-length-8 Inv-loop μ-loop
+same-length-8 c = search (needs, c .before .loop .inv .size-same, c .before .loop .inv .trace-size)
+
+returns-4 : tie.Need-returns-4 Inv-loop μ-loop
+returns-4 c = answers _ _ _ _ _ _ (way-spent _ _ _ _ _ _ _ (c .before .loop .inv) (c .loop-test .left)) tt
 
 pub run-spec : {M : Type 1} → statement M
 run-spec =
@@ -90,24 +88,25 @@ run-spec =
     (tie.spec
     Inv-loop
     μ-loop
-    table-requires
     loop-holds
-    step-requires
-    enum-told
-    note-requires
-    enum-told-2
-    note-requires-2
-    add-t34
+    form-requires
+    enum-known-n
     same-length
     same-length-2
     returns
-    enum-known-end
+    enum-known-w
+    go-on-requires
+    enum-told
+    loop-less
+    loop-again
+    enum-told-2
     same-length-3
     same-length-4
     returns-2
-    add-count
-    loop-less
-    loop-again
+    enum-known-end
     same-length-5
     same-length-6
-    returns-3)
+    returns-3
+    same-length-7
+    same-length-8
+    returns-4)

@@ -1,6 +1,6 @@
 -- `run_image` meets its contract. Assumes nothing.
 use borrow.Author.Needs.{needs}
-use Rattle.host.proofs.PrepareLaws.{prepared-passes}
+use Rattle.machine.proofs.AskLaws.{prepared-passes}
 use Rattle.simulate.proofs.run_image.Statement.{statement}
 use Rattle.simulate.proofs.run_image.Tie as tie
 

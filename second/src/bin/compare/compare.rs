@@ -23,7 +23,6 @@ pub struct Comparer {
     mine: Vec<u64>,
     after_run: Vec<u64>,
     lent: Lent,
-    padding: u8,
     image: Vec<u8>,
     texts: [Vec<u8>; 2],
 }
@@ -36,8 +35,7 @@ impl Comparer {
             images: 0,
             mine: Vec::new(),
             after_run: Vec::new(),
-            lent: Lent::new(),
-            padding: 0,
+            lent: Lent::new(0),
             image: Vec::new(),
             texts: [Vec::new(), Vec::new()],
         }
@@ -47,13 +45,12 @@ impl Comparer {
     /// run's reply.
     pub fn machine(&mut self, machine: &Machine) -> Result<Reply, Difference> {
         self.machines += 1;
-        self.padding = self.padding.wrapping_add(41);
 
         // The runs.
         let mut registers = machine.registers;
         self.mine.clear();
         self.mine.extend_from_slice(&machine.memory);
-        self.lent.set(&machine.registers, &machine.memory, self.padding);
+        self.lent.set(&machine.registers, &machine.memory);
         let run_reply = second::run(&mut registers, &mut self.mine, machine.budget);
         let answer = self.lent.run(machine.budget);
         self.agree("kuzhlemor_run", run_reply, answer, &registers)?;
@@ -64,7 +61,7 @@ impl Comparer {
         let mut registers = machine.registers;
         self.mine.clear();
         self.mine.extend_from_slice(&machine.memory);
-        self.lent.set(&machine.registers, &machine.memory, self.padding);
+        self.lent.set(&machine.registers, &machine.memory);
         let mut reply = match run_reply {
             Reply::Refused { number } => Reply::Refused { number },
             _ => Reply::Spent { count: 0 },

@@ -1,5 +1,6 @@
 //! The C library, called as its header says.
 
+use crate::random::Random;
 use second::{Dbr, Fault, Pointer, Registers, Reply};
 
 #[repr(C)]
@@ -90,38 +91,52 @@ impl Answer {
 const GUARD: usize = 8;
 const GUARD_WORD: u64 = 0x5a17_c0de_0bad_f00d;
 
-/// A machine in the library's hands: its record, and its memory between words that it must leave alone.
+/// A machine in the library's hands: its record, and its memory between words that it must leave alone. The record's
+/// padding, which carries nothing, is drawn before each call.
 pub struct Lent {
     record: CRegisters,
     words: Vec<u64>,
+    padding: Random,
 }
 
 impl Lent {
-    pub fn new() -> Lent {
-        Lent { record: CRegisters::default(), words: Vec::new() }
+    /// Another seed, other padding.
+    pub fn new(seed: u64) -> Lent {
+        Lent { record: CRegisters::default(), words: Vec::new(), padding: Random::new(seed) }
     }
 
-    /// Lends these. `padding` stands in the record's padding bytes, which carry nothing.
-    pub fn set(&mut self, registers: &Registers, memory: &[u64], padding: u8) {
+    /// Lends these.
+    pub fn set(&mut self, registers: &Registers, memory: &[u64]) {
         self.words.clear();
         self.words.extend_from_slice(&[GUARD_WORD; GUARD]);
         self.words.extend_from_slice(memory);
         self.words.extend_from_slice(&[GUARD_WORD; GUARD]);
-        self.set_registers(registers, padding);
-    }
-
-    pub fn set_registers(&mut self, registers: &Registers, padding: u8) {
-        let pointer =
-            |pointer: Pointer| CPointer { ring: pointer.ring, padding, segment: pointer.segno, word: pointer.wordno };
+        let pointer = |pointer: Pointer| CPointer {
+            ring: pointer.ring,
+            padding: 0,
+            segment: pointer.segno,
+            word: pointer.wordno,
+        };
         self.record = CRegisters {
             a: registers.a,
             dbr_address: registers.dbr.address,
             dbr_length: registers.dbr.length,
-            dbr_padding: u16::from(padding),
+            dbr_padding: 0,
             ipr: pointer(registers.ipr),
             prs: registers.pr.map(pointer),
-            padding: u16::from(padding),
+            padding: 0,
         };
+    }
+
+    fn draw_padding(&mut self) {
+        let bytes = self.padding.next().to_le_bytes();
+        for (pr, byte) in self.record.prs.iter_mut().zip(bytes) {
+            pr.padding = byte;
+        }
+        let rest = self.padding.next();
+        self.record.ipr.padding = rest as u8;
+        self.record.dbr_padding = (rest >> 16) as u16;
+        self.record.padding = (rest >> 32) as u16;
     }
 
     pub fn registers(&self) -> Registers {
@@ -144,6 +159,7 @@ impl Lent {
     }
 
     pub fn step(&mut self) -> Answer {
+        self.draw_padding();
         let words = self.words.len() - 2 * GUARD;
         // SAFETY: one record and `words` words, aligned, lent alone for the call.
         let reply = unsafe { kuzhlemor_step(&mut self.record, self.words.as_mut_ptr().add(GUARD), words) };
@@ -151,6 +167,7 @@ impl Lent {
     }
 
     pub fn run(&mut self, budget: u32) -> Answer {
+        self.draw_padding();
         let words = self.words.len() - 2 * GUARD;
         // SAFETY: as in `step`.
         let reply = unsafe { kuzhlemor_run(&mut self.record, self.words.as_mut_ptr().add(GUARD), words, budget) };

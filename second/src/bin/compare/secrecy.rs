@@ -65,7 +65,7 @@ impl Secrecy {
             machine: Machine::default(),
             other: Vec::new(),
             mask: Vec::new(),
-            lent: [Lent::new(), Lent::new()],
+            lent: [Lent::new(1), Lent::new(2)],
             pairs: 0,
             steps: 0,
             ended_below: 0,
@@ -158,8 +158,8 @@ struct Done {
 /// The two stretches, step by step and then as runs.
 fn check(machine: &Machine, other: &[u64], mask: &[u64], n: u8, lent: &mut [Lent; 2]) -> Result<Done, Difference> {
     let [one, two] = lent;
-    one.set(&machine.registers, &machine.memory, 0);
-    two.set(&machine.registers, other, 0);
+    one.set(&machine.registers, &machine.memory);
+    two.set(&machine.registers, other);
     let mut done = Done { steps: 0, ended_below: false, faulted: false };
     while done.steps < machine.budget {
         let answers = [one.step(), two.step()];
@@ -175,8 +175,8 @@ fn check(machine: &Machine, other: &[u64], mask: &[u64], n: u8, lent: &mut [Lent
     }
     let budget = if done.ended_below { done.steps } else { machine.budget };
     let after_steps = one.registers();
-    one.set(&machine.registers, &machine.memory, 0);
-    two.set(&machine.registers, other, 0);
+    one.set(&machine.registers, &machine.memory);
+    two.set(&machine.registers, other);
     let answers = [one.run(budget), two.run(budget)];
     agree(answers, one, two, mask).map_err(|Difference(text)| Difference(format!("run of {budget}: {text}")))?;
     if one.registers() != after_steps || answers[0].count != done.steps {

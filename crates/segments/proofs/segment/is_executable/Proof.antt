@@ -1,12 +1,21 @@
 -- `segment::is_executable` meets its contract. Assumes nothing.
-use mathlib.Core.Path.{refl}
-use Rattle.model.specs.Questions.{may-execute}
+use borrow.Author.Needs.{needs}
+use Rattle.segments.proofs.SegmentLaws.{tests}
 use Rattle.segments.proofs.segment.is_executable.Statement.{statement}
 use Rattle.segments.proofs.segment.is_executable.Tie as tie
 
+is-execute-on-requires : tie.Need-is-execute-on-requires
+is-execute-on-requires c κs = search (needs, tests)
+
+r1-of-requires : tie.Need-r1-of-requires
+r1-of-requires c κs = search (needs, tests)
+
+r2-of-requires : tie.Need-r2-of-requires
+r2-of-requires c κs = search (needs, tests)
+
 returns : tie.Need-returns
-unfolding may-execute
-returns c = refl
+returns c = search (needs, tests)
 
 pub is-executable-spec : {M : Type 1} → statement M
-is-executable-spec = tie.close (tie.spec returns)
+is-executable-spec =
+    tie.close (tie.spec is-execute-on-requires r1-of-requires r2-of-requires returns)

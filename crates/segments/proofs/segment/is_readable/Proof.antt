@@ -1,12 +1,17 @@
 -- `segment::is_readable` meets its contract. Assumes nothing.
-use mathlib.Core.Path.{refl}
-use Rattle.model.specs.Questions.{may-read}
+use borrow.Author.Needs.{needs}
+use Rattle.segments.proofs.SegmentLaws.{tests}
 use Rattle.segments.proofs.segment.is_readable.Statement.{statement}
 use Rattle.segments.proofs.segment.is_readable.Tie as tie
 
+is-read-on-requires : tie.Need-is-read-on-requires
+is-read-on-requires c κs = search (needs, tests)
+
+r2-of-requires : tie.Need-r2-of-requires
+r2-of-requires c κs = search (needs, tests)
+
 returns : tie.Need-returns
-unfolding may-read
-returns c = refl
+returns c = search (needs, tests)
 
 pub is-readable-spec : {M : Type 1} → statement M
-is-readable-spec = tie.close (tie.spec returns)
+is-readable-spec = tie.close (tie.spec is-read-on-requires r2-of-requires returns)

@@ -1,12 +1,17 @@
 -- `segment::is_writable` meets its contract. Assumes nothing.
-use mathlib.Core.Path.{refl}
-use Rattle.model.specs.Questions.{may-write}
+use borrow.Author.Needs.{needs}
+use Rattle.segments.proofs.SegmentLaws.{tests}
 use Rattle.segments.proofs.segment.is_writable.Statement.{statement}
 use Rattle.segments.proofs.segment.is_writable.Tie as tie
 
+is-write-on-requires : tie.Need-is-write-on-requires
+is-write-on-requires c κs = search (needs, tests)
+
+r1-of-requires : tie.Need-r1-of-requires
+r1-of-requires c κs = search (needs, tests)
+
 returns : tie.Need-returns
-unfolding may-write
-returns c = refl
+returns c = search (needs, tests)
 
 pub is-writable-spec : {M : Type 1} → statement M
-is-writable-spec = tie.close (tie.spec returns)
+is-writable-spec = tie.close (tie.spec is-write-on-requires r1-of-requires returns)

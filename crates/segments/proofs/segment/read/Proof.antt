@@ -5,7 +5,7 @@ use Rattle.segments.proofs.segment.read.Statement.{statement}
 use Rattle.segments.proofs.segment.read.Tie as tie
 
 segment-words-requires : tie.Need-segment-words-requires
-segment-words-requires c κs = search needs
+segment-words-requires c κs = search (needs, parts)
 
 word-of-requires : tie.Need-word-of-requires
 word-of-requires c κs = search (needs, parts)

@@ -5,13 +5,13 @@ use Rattle.segments.proofs.state.advanced.Statement.{statement}
 use Rattle.segments.proofs.state.advanced.Tie as tie
 
 moved-requires : tie.Need-moved-requires
-moved-requires c κs = search needs
+moved-requires c κs = search (needs, advanced-law)
 
 with-ipr-requires : tie.Need-with-ipr-requires
-with-ipr-requires c κs = search needs
+with-ipr-requires c κs = search (needs, advanced-law)
 
 returns : tie.Need-returns
-returns c = λ prs. advanced-law _ _ _ (c .with-ipr .ensures prs) (c .before .moved .ensures)
+returns c = search (needs, advanced-law)
 
 pub advanced-spec : {M : Type 1} → statement M
 advanced-spec = tie.close (tie.spec moved-requires with-ipr-requires returns)

@@ -1,15 +1,20 @@
 -- `state::moved` meets its contract. Assumes nothing.
 use borrow.Author.Needs.{needs}
-use Rattle.model.specs.Registers.{moved-by}
+use Rattle.segments.proofs.StateLaws.{moved-law}
 use Rattle.segments.proofs.state.moved.Statement.{statement}
 use Rattle.segments.proofs.state.moved.Tie as tie
+
+cast-wrapping-add-u16 : tie.Need-cast-wrapping-add-u16
+cast-wrapping-add-u16 c = search needs
 
 wrapping-add-u16-requires : tie.Need-wrapping-add-u16-requires
 wrapping-add-u16-requires c κs = search needs
 
+cast-t7 : tie.Need-cast-t7
+cast-t7 c = search needs
+
 returns : tie.Need-returns
-unfolding moved-by
-returns c = rw (c .wrapping-add-u16 .ensures)
+returns c = search (needs, moved-law)
 
 pub moved-spec : {M : Type 1} → statement M
-moved-spec = tie.close (tie.spec wrapping-add-u16-requires returns)
+moved-spec = tie.close (tie.spec cast-wrapping-add-u16 wrapping-add-u16-requires cast-t7 returns)

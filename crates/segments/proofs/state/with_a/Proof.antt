@@ -6,7 +6,7 @@ use Rattle.segments.proofs.state.with_a.Tie as tie
 
 returns : tie.Need-returns
 unfolding with-a
-returns c = λ prs. refl
+returns c = record { registers-same = λ ps. refl }
 
 pub with-a-spec : {M : Type 1} → statement M
 with-a-spec = tie.close (tie.spec returns)

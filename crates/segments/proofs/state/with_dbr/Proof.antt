@@ -6,7 +6,7 @@ use Rattle.segments.proofs.state.with_dbr.Tie as tie
 
 returns : tie.Need-returns
 unfolding with-dbr
-returns c = λ prs. refl
+returns c = record { registers-same = λ ps. refl }
 
 pub with-dbr-spec : {M : Type 1} → statement M
 with-dbr-spec = tie.close (tie.spec returns)

@@ -6,7 +6,7 @@ use Rattle.segments.proofs.state.with_ipr.Tie as tie
 
 returns : tie.Need-returns
 unfolding with-ipr
-returns c = λ prs. refl
+returns c = record { registers-same = λ ps. refl }
 
 pub with-ipr-spec : {M : Type 1} → statement M
 with-ipr-spec = tie.close (tie.spec returns)

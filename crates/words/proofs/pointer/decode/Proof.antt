@@ -5,12 +5,9 @@ use Rattle.model.specs.Words.{pointer-in, field}
 use Rattle.words.proofs.pointer.decode.Statement.{statement}
 use Rattle.words.proofs.pointer.decode.Tie as tie
 
-cast-t8 : tie.Need-cast-t8
-cast-t8 c = search needs
-
 returns : tie.Need-returns
 unfolding pointer-in field
 returns c = record { same = simp div-one; within = search needs }
 
 pub decode-spec : {M : Type 1} → statement M
-decode-spec = tie.close (tie.spec cast-t8 returns)
+decode-spec = tie.close (tie.spec returns)

@@ -4,9 +4,6 @@ use Rattle.model.specs.Words.{pointer-word}
 use Rattle.words.proofs.pointer.encode.Statement.{statement}
 use Rattle.words.proofs.pointer.encode.Tie as tie
 
-cast-result : tie.Need-cast-result
-cast-result c = search needs
-
 mul-result : tie.Need-mul-result
 mul-result c = search needs
 
@@ -25,4 +22,4 @@ returns c = search needs
 
 pub encode-spec : {M : Type 1} → statement M
 encode-spec =
-    tie.close (tie.spec cast-result mul-result add-result mul-result-2 add-result-2 returns)
+    tie.close (tie.spec mul-result add-result mul-result-2 add-result-2 returns)

@@ -1,0 +1,151 @@
+-- A run's answer as numbers: each reply's, and the whole, refused or run. Assumes nothing.
+use mathlib.Core.Path.{_≡_, refl, sym, _∙_, ap, subst}
+use mathlib.Core.List.{List}
+use Prim.Native.Nat.{ℕ, zero, suc, _+_, _≤_}
+use native.Mathlib.Omega.{arith}
+use lib.Dec.{leb}
+use lib.ListN.{length, take}
+use borrow.Author.Tests.{leb-true, ne-eqb}
+use Rattle.model.specs.Registers.{Machine}
+use Rattle.model.specs.Answers.{Numbers, numbers, reply-numbers}
+use Rattle.model.specs.Questions.{all, pointer-in-range, registers-in-range, dbr-fits, start-questions}
+use Rattle.model.specs.Run as Run
+use Rattle.model.specs.Run.{ran, run-from, run}
+use Rattle.model.proofs.BranchLaws.{and-left, and-right}
+use Rattle.model.proofs.QuestionLaws.{ask-yes}
+use Rattle.model.proofs.RunLaws.{run-refused, run-goes}
+use Rattle.words.specs.View.{as-pointer, Pointer-within}
+use Rattle.words.specs.declared.pointer.Pointer.{Pointer}
+use Rattle.segments.specs.View.{as-pointers, as-machine}
+use Rattle.segments.specs.declared.state.Core.{Core}
+use Rattle.host.specs.Record.{In-record}
+use Rattle.run.specs.Run.{as-reply, Reply-within, completed, noted-pointers, Ran-as, Traced}
+use Rattle.run.specs.declared.Ran.{Ran}
+use Rattle.run.specs.declared.Reply.{Reply}
+use Rattle.run.specs.declared.Reply.the-variants as Reply
+use Rattle.run.proofs.RunLaws.{ipr-passing}
+use Rattle.machine.specs.Answered.{Answer-fits, Answers-with, Answered-as, reply-in, Replies}
+use Rattle.machine.specs.declared.Answered.{Answered}
+
+-- A REPLY AS NUMBERS
+abbrev nowhere : Pointer
+nowhere = record { ring = 0; segment = record { 0 = 0 }; word = record { 0 = 0 } }
+
+nowhere-within : Pointer-within nowhere
+nowhere-within = record { ring-within = omega arith; segment-within = omega arith; word-within = omega arith }
+
+module _ (r : Reply) (c : Core) (p : Pointer) where
+  pub refused-answered : (n : ℕ) → r ≡ Reply.Refused n → n ≤ 255 → p ≡ nowhere → Answers-with r c (record { kind = 0; core = c; number = n; pointer = p; count = 0 })
+  unfolding reply-numbers numbers
+  refused-answered n e h f =
+      rw (e, f) (record { numbers-same = refl; core-same = refl; fits = record { kind-fits = omega arith; number-fits = h; count-fits = omega arith; pointer-fits = nowhere-within } })
+
+  pub spent-answered : (n : ℕ) → r ≡ Reply.Spent n → n ≤ 4294967295 → p ≡ nowhere → Answers-with r c (record { kind = 1; core = c; number = 0; pointer = p; count = n })
+  unfolding reply-numbers numbers
+  spent-answered n e h f =
+      rw (e, f) (record { numbers-same = refl; core-same = refl; fits = record { kind-fits = omega arith; number-fits = omega arith; count-fits = h; pointer-fits = nowhere-within } })
+
+  pub halted-answered : (n : ℕ) → r ≡ Reply.Halted n → n ≤ 4294967295 → p ≡ nowhere → Answers-with r c (record { kind = 2; core = c; number = 0; pointer = p; count = n })
+  unfolding reply-numbers numbers
+  halted-answered n e h f =
+      rw (e, f) (record { numbers-same = refl; core-same = refl; fits = record { kind-fits = omega arith; number-fits = omega arith; count-fits = h; pointer-fits = nowhere-within } })
+
+pub fault-answered : (r : Reply) (c : Core) (i n : ℕ) (t : Pointer) → Reply-within r → r ≡ Reply.Fault i n t → i ≤ 255 → n ≤ 4294967295 →
+    Answers-with r c (record { kind = 3; core = c; number = i; pointer = t; count = n })
+unfolding reply-numbers numbers
+fault-answered r c i n t w e h k =
+    let within : Pointer-within t = subst Reply-within e w in
+    rw e (record { numbers-same = refl; core-same = refl; fits = record { kind-fits = omega arith; number-fits = h; count-fits = k; pointer-fits = within } })
+
+-- NUMBERS AS A REPLY
+pub reply-of-numbers : (r : Run.Reply) → reply-in (reply-numbers r) ≡ r
+unfolding reply-in reply-numbers numbers
+reply-of-numbers (Run.Reply.refused n) = refl
+reply-of-numbers (Run.Reply.spent c) = refl
+reply-of-numbers (Run.Reply.halted c) = refl
+reply-of-numbers (Run.Reply.fault n c p) = refl
+
+module _ (x : Answered) (k : ℕ) (e : k ≡ x .kind) where
+  pub replies-refused : k ≡ 0 → Replies x (Reply.Refused (x .number))
+  unfolding reply-in
+  replies-refused h = record { same = rw (← e, h); within = tt }
+
+  pub replies-spent : k ≡ 1 → Replies x (Reply.Spent (x .count))
+  unfolding reply-in
+  replies-spent h = record { same = rw (← e, h); within = tt }
+
+  pub replies-halted : k ≡ 2 → Replies x (Reply.Halted (x .count))
+  unfolding reply-in
+  replies-halted h = record { same = rw (← e, h); within = tt }
+
+  pub replies-fault : (k ≡ 0 → ⊥) → (k ≡ 1 → ⊥) → (k ≡ 2 → ⊥) → Answer-fits x → Replies x (Reply.Fault (x .number) (x .count) (x .pointer))
+  unfolding reply-in
+  replies-fault h i j f = record { same = rw (← e, ne-eqb k 0 h, ne-eqb k 1 i, ne-eqb k 2 j); within = f .pointer-fits }
+
+-- THE WHOLE
+pub count-completed : (r : Reply) → reply-numbers (as-reply r) .count ≡ completed r
+unfolding reply-numbers numbers
+count-completed (Reply.Refused n) = refl
+count-completed (Reply.Spent c) = refl
+count-completed (Reply.Halted c) = refl
+count-completed (Reply.Fault n c t) = refl
+
+passing-in-record : (c : Core) (prs m : List ℕ) → start-questions (as-machine c prs m) ≡ 0 → In-record c
+unfolding start-questions registers-in-range dbr-fits
+passing-in-record c prs m e =
+    let h = ipr-passing c prs m e in
+    let a = ask-yes _ _ _ e in
+    let b = ask-yes _ _ _ (a .1) in
+    let d = ask-yes _ _ _ (b .1) in
+    let address : c .dbr .address ≤ 16777215 = leb-true _ _ (and-right (all pointer-in-range (as-pointers prs)) _ (and-right (pointer-in-range (as-pointer (c .ipr))) _ (b .0))) in
+    let size : c .dbr .length ≤ 4096 = leb-true _ _ (and-left (leb (c .dbr .length) 4096) (leb (c .dbr .address + c .dbr .length) (length m)) (ask-yes _ _ _ (d .1) .0)) in
+    record {
+      ring-fits = let z = h .ring-within in omega arith;
+      segment-fits = let z = h .segment-within in omega arith;
+      word-fits = h .word-within;
+      address-fits = omega arith;
+      length-fits = omega arith;
+    }
+
+module _ (b : ℕ) (c : Core) (prs memory trace : List ℕ) (n : ℕ) (e : n ≡ start-questions (as-machine c prs memory)) (x : Answered) where
+  pub refused-whole : (n ≡ 0 → ⊥) → Answers-with (Reply.Refused n) c x → Answered-as b c prs memory trace x prs memory trace
+  unfolding ran
+  refused-whole h a =
+      record {
+        numbers-same = a .numbers-same ∙ ap (λ (y : Run.Ran). reply-numbers (y .reply)) (sym refuses);
+        machine-same = ap (λ d. as-machine d prs memory) (a .core-same) ∙ ap (λ (y : Run.Ran). y .machine) (sym refuses);
+        fits = a .fits;
+        core-fits = λ f. subst In-record (sym (a .core-same)) f;
+        passes = λ z. absurd (h (e ∙ z));
+        trace-size = refl;
+        traced = λ z. absurd (h (e ∙ z));
+      }
+    where
+      by-number : (m : Machine) (n : ℕ) → n ≡ start-questions m → (n ≡ 0 → ⊥) → run b m ≡ ran (Run.Reply.refused n) m
+      by-number m zero e f = absurd (f refl)
+      by-number m (suc n) e f = run-refused b n m (sym e)
+
+      refuses : run b (as-machine c prs memory) ≡ ran (Run.Reply.refused n) (as-machine c prs memory)
+      refuses = by-number (as-machine c prs memory) n e h
+
+  pub run-whole : n ≡ 0 → (y : Ran) (prs-now memory-now trace-now : List ℕ) → Ran-as (run-from b 0 (as-machine c prs memory)) y (as-machine (y .core) prs-now memory-now) →
+      Traced b (as-machine c prs memory) y trace trace-now → Answers-with (y .reply) (y .core) x → Answered-as b c prs memory trace x prs-now memory-now trace-now
+  unfolding ran
+  run-whole z y prs-now memory-now trace-now r t a =
+      let goes : run b (as-machine c prs memory) ≡ ran (as-reply (y .reply)) (as-machine (y .core) prs-now memory-now) = run-goes b (as-machine c prs memory) (sym e ∙ z) ∙ r .same in
+      let again : start-questions (as-machine (x .core) prs-now memory-now) ≡ 0 = subst (λ d. start-questions (as-machine d prs-now memory-now) ≡ 0) (sym (a .core-same)) (r .passes) in
+      record {
+        numbers-same = a .numbers-same ∙ ap (λ (y : Run.Ran). reply-numbers (y .reply)) (sym goes);
+        machine-same = ap (λ d. as-machine d prs-now memory-now) (a .core-same) ∙ ap (λ (y : Run.Ran). y .machine) (sym goes);
+        fits = a .fits;
+        core-fits = λ _. passing-in-record (x .core) prs-now memory-now again;
+        passes = λ _. again;
+        trace-size = t .size-same;
+        traced =
+            λ _ room.
+            ap (λ k. noted-pointers (take k trace-now)) (ap (λ (q : Numbers). q .count) (a .numbers-same) ∙ count-completed (y .reply)) ∙ t .traced room;
+      }
+
+pub ruleset replies = (refused-answered, spent-answered, halted-answered, fault-answered, replies-refused, replies-spent, replies-halted, replies-fault)
+
+pub ruleset wholes = (refused-whole, run-whole)

@@ -1,0 +1,14 @@
+-- `questions::answer` meets its contract. Assumes nothing.
+use borrow.Author.Needs.{needs}
+use Rattle.segments.proofs.AskLaws.{asks}
+use Rattle.segments.proofs.questions.answer.Statement.{statement}
+use Rattle.segments.proofs.questions.answer.Tie as tie
+
+returns : tie.Need-returns
+returns c = search (needs, asks)
+
+returns-2 : tie.Need-returns-2
+returns-2 c = search (needs, asks)
+
+pub answer-spec : {M : Type 1} → statement M
+answer-spec = tie.close (tie.spec returns returns-2)

@@ -1,0 +1,12 @@
+-- `descriptor::address_of` meets its contract. Assumes nothing.
+use borrow.Author.Needs.{needs}
+use Rattle.model.specs.Words.{descriptor-in, field}
+use Rattle.words.proofs.descriptor.address_of.Statement.{statement}
+use Rattle.words.proofs.descriptor.address_of.Tie as tie
+
+returns : tie.Need-returns
+unfolding descriptor-in field
+returns c = search needs
+
+pub address-of-spec : {M : Type 1} → statement M
+address-of-spec = tie.close (tie.spec returns)
