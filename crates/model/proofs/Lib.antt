@@ -15,6 +15,7 @@ pub mod RunLaws
 pub mod EndsLaws
 pub mod CountLaws
 pub mod ImageLaws
+pub mod CutLaws
 pub mod ListingLaws
 pub mod Computing
 pub mod CasesHold
