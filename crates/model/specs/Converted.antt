@@ -1,13 +1,13 @@
 -- Statements on `convert`, and on today's rules beside those of stored images. Assumes nothing: these are definitions.
 use mathlib.Core.Path.{_≡_}
-use mathlib.Core.Bool.{true, false}
+use mathlib.Core.Bool.{false}
 use mathlib.Core.List.{List, [], _∷_}
 use Prim.Native.Nat.{ℕ}
 use Rattle.model.specs.Registers.{Machine}
 use Rattle.model.specs.Run.{refused}
 use Rattle.model.specs.Image.{refused-image, loaded, image, stored-image}
 use Rattle.model.specs.Listing.{last-line}
-use Rattle.model.specs.Convert.{records, left-over, superseded, some-writes, last-of-each, convert}
+use Rattle.model.specs.Convert.{records, left-over, superseded, some-writes, convert}
 
 -- some of the elements, in their order
 pub data Sublist {A : Type 0} : (xs ys : List A) → Type 0 where

@@ -1,5 +1,5 @@
 -- The bench's call is what 03's contract says. Assumes nothing.
-use mathlib.Core.Path.{refl, subst}
+use mathlib.Core.Path.{refl, _∙_, ap, subst}
 use mathlib.Core.Bool.{Bool, true, false, not, cond}
 use mathlib.Core.List.{List}
 use Prim.Native.Nat.{ℕ, zero, suc, _+_, _*_, _≤_}
@@ -7,6 +7,7 @@ use native.Mathlib.Omega.{arith}
 use lib.Dec.{ltb, eqb, eqb·suc-zero}
 use lib.ListN.{length}
 use Rattle.model.specs.Image.{Image, refused-image, loaded, image}
+use Rattle.model.proofs.ConvertLaws.{rules-agree}
 use Rattle.model.specs.Bench.{negated, bench-refused, bench-listed, bench-on, bench}
 use Rattle.reference.specs.Run as Run03
 use Rattle.reference.specs.Entry as Entry03
@@ -40,4 +41,5 @@ bench-says (loaded m b) out s = rw (leb-is-not-ltb (64 * (b + 1)) (length out), 
 
 pub bench-equal : Bench-equal
 unfolding bench Says-of Entry03.bench-refusal Entry03.listing-of
-bench-equal bs out = subst (λ (i : Run03.Image). Says-of i (image bs) out) (image-equal bs) (bench-says (image bs) out (image-judged bs))
+bench-equal bs out once =
+    subst (λ (i : Run03.Image). Says-of i (image bs) out) (ap View.image (rules-agree bs once) ∙ image-equal bs) (bench-says (image bs) out (image-judged bs))
