@@ -1,6 +1,6 @@
 -- The bench's call: a refusal's number, and one law for each answer. Assumes nothing.
 use mathlib.Core.Path.{_≡_, refl, sym, _∙_, ap, subst}
-use mathlib.Core.Bool.{true, cond, false≢true}
+use mathlib.Core.Bool.{true, false, cond, false≢true}
 use mathlib.Core.List.{List, []}
 use Prim.Native.Nat.{ℕ, zero, suc, _+_, _-_, _*_, _^_, _≤_, _<_}
 use native.Mathlib.Omega.{arith}
@@ -30,7 +30,7 @@ use Rattle.listing.specs.Lines.{Whole-listing}
 use Rattle.records.specs.declared.loading.Loading.{Loading}
 use Rattle.image.specs.declared.load.Loaded.{Loaded}
 use Rattle.image.specs.declared.load.LoadOutcome.the-variants.{Refused, More, Ready}
-use Rattle.records.specs.View.{as-loading, Starts}
+use Rattle.records.specs.View.{rules-of, as-loading, Starts}
 use Rattle.records.specs.Record.{outcome-image}
 use Rattle.image.specs.Load.{as-outcome, Loaded-as}
 use Rattle.image.proofs.LoadLaws.{image-loaded, may-load, words-within}
@@ -147,9 +147,9 @@ module _ (l : Loading) (v bs : List ℕ) (x : Loaded) (k : List ℕ) (w : Loaded
   unfolding Image.machine-of Image.memory-of Image.or-else as-loading machine
   ready-machine = rw (ready-memory, ready-registers) refl
 
-module _ (l : Loading) (v bs t : List ℕ) (x : Loaded) (k : List ℕ) (s : Starts l) (z : v ≡ replicate 8192 0) (w : Loaded-as l v bs true x k) where
-  starts-empty : as-loading l v ≡ Image.nothing-loaded
-  unfolding Starts
+module _ (l : Loading) (v bs t : List ℕ) (x : Loaded) (k : List ℕ) (s : Starts false l) (z : v ≡ replicate 8320 0) (w : Loaded-as l v bs true x k) where
+  starts-empty : as-loading l v ≡ Image.nothing-loaded Image.today
+  unfolding Starts rules-of
   starts-empty = s v z .1
 
   whole : image bs ≡ outcome-image (as-outcome (x .outcome)) (as-loading (x .loading) k) bs []

@@ -44,8 +44,8 @@ pub fn list_loaded(
 pub fn bench(image: &[u8], text: &mut [u8]) -> Benched
     ensures { λ x. ⌜ Benched-as (Bench.bench (now (image .entry)) (now (text .entry))) x (now (text .exit)) ⌝ }
 {
-    let mut memory = records::loading::empty_memory();
-    let x = image::load::load(records::loading::nothing_loaded(), &mut memory, image, true);
+    let mut store = records::loading::empty_store();
+    let x = image::load::load(records::loading::nothing_loaded(false), &mut store, image, true);
     let loading = x.loading;
     let outcome = x.outcome;
     match outcome {
@@ -60,7 +60,7 @@ pub fn bench(image: &[u8], text: &mut [u8]) -> Benched
         LoadOutcome::Ready(budget) => {
             let words = loading.words as usize;
             let registers = loading.registers;
-            list_loaded(registers, &mut memory[..words], budget, text)
+            list_loaded(registers, &mut store[..words], budget, text)
         }
     }
 }

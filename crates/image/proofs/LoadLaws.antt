@@ -79,14 +79,14 @@ module _ {l : Loading} {m bs : List ℕ} {e : Bool} {at : ℕ} {k : Loading} {m-
         }
 
 -- a whole image, from nothing
-pub image-loaded : (l : Image.Loading) (bs : List ℕ) (o : Outcome) (k : Image.Loading) → l ≡ Image.nothing-loaded → Goes l bs true o k → Image.image bs ≡ outcome-image o k bs []
+pub image-loaded : (l : Image.Loading) (bs : List ℕ) (o : Outcome) (k : Image.Loading) → l ≡ Image.nothing-loaded Image.today → Goes l bs true o k → Image.image bs ≡ outcome-image o k bs []
 unfolding Goes Image.image
 image-loaded l bs o k e h = sym (ap₂ image-after e (append-nil bs)) ∙ h [] (λ _. refl)
 
--- 8,192 zeros may be lent before the first record
-pub may-load : (l : Loading) (m : List ℕ) → Starts l → m ≡ replicate 8192 0 → Loading-within l m
+-- a store of zeros may be lent before the first record
+pub may-load : (v : Bool) (l : Loading) (m : List ℕ) → Starts v l → m ≡ replicate 8320 0 → Loading-within l m
 unfolding Starts
-may-load l m s z = s m z .0
+may-load v l m s z = s m z .0
 
 -- once ME has come, the image's memory is the front of what is lent
 pub words-within : (l : Loading) (m : List ℕ) → Loading-within l m → l .«has_memory» ≡ true → l .words ≤ length m

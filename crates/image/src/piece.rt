@@ -22,15 +22,15 @@ pub fn keep(buffer: &mut [u8], from: usize, end: usize)
 // Loads the buffer's first `size` bytes; of those that wait for more, `More` says how many stand at its front. `ended`: no bytes come after these.
 pub fn load_piece(
     loading: Loading,
-    memory: &mut [u64],
+    store: &mut [u64],
     buffer: &mut [u8],
     size: usize,
     ended: bool,
 ) -> Loaded
-    requires { ⌜ Loading-within loading (now memory) × (size ≤ length (now buffer)) ⌝ }
-    ensures { λ x. ⌜ Piece-loaded loading (now (memory .entry)) (take size (now (buffer .entry))) ended x (now (memory .exit)) (now (buffer .exit)) ⌝ }
+    requires { ⌜ Loading-within loading (now store) × (size ≤ length (now buffer)) ⌝ }
+    ensures { λ x. ⌜ Piece-loaded loading (now (store .entry)) (take size (now (buffer .entry))) ended x (now (store .exit)) (now (buffer .exit)) ⌝ }
 {
-    let x = crate::load::load(loading, memory, &buffer[..size], ended);
+    let x = crate::load::load(loading, store, &buffer[..size], ended);
     let outcome = x.outcome;
     match outcome {
         LoadOutcome::Refused(_n) => x,

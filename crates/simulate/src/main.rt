@@ -36,13 +36,13 @@ fn read_piece(buffer: &mut [u8], kept: usize) -> Piece
 }
 
 // Reads and loads until an image is whole or refused; `More` means that the input can't be read.
-fn read_image(memory: &mut [u64]) -> Loaded
-    requires { ⌜ now memory ≡ replicate 8192 0 ⌝ }
-    ensures { λ x. ⌜ Ready-within x (now (memory .exit)) ⌝ }
+fn read_image(store: &mut [u64]) -> Loaded
+    requires { ⌜ now store ≡ replicate 8320 0 ⌝ }
+    ensures { λ x. ⌜ Ready-within x (now (store .exit)) ⌝ }
 {
     let mut buffer = io::large_buffer();
     let mut x = Loaded {
-        loading: records::loading::nothing_loaded(),
+        loading: records::loading::nothing_loaded(false),
         outcome: LoadOutcome::More(0),
     };
     let mut kept = 0;
@@ -54,7 +54,7 @@ fn read_image(memory: &mut [u64]) -> Loaded
             os::fail(b"standard input");
             return x;
         }
-        x = image::piece::load_piece(x.loading, memory, &mut buffer, piece.size, piece.has_ended);
+        x = image::piece::load_piece(x.loading, store, &mut buffer, piece.size, piece.has_ended);
         let outcome = x.outcome;
         match outcome {
             LoadOutcome::Refused(_n) => {
@@ -118,8 +118,8 @@ fn run_image(registers: Registers, memory: &mut [u64], budget: u32) {
 }
 
 fn main() {
-    let mut memory = records::loading::empty_memory();
-    let x = read_image(&mut memory);
+    let mut store = records::loading::empty_store();
+    let x = read_image(&mut store);
     let loading = x.loading;
     let outcome = x.outcome;
     match outcome {
@@ -130,7 +130,7 @@ fn main() {
         LoadOutcome::Ready(budget) => {
             let words = loading.words as usize;
             let registers = loading.registers;
-            run_image(registers, &mut memory[..words], budget);
+            run_image(registers, &mut store[..words], budget);
         }
     }
 }

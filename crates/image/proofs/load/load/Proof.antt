@@ -8,10 +8,10 @@ use Rattle.image.proofs.load.load.Statement.{statement}
 use Rattle.image.proofs.load.load.Tie as tie
 
 abbrev Inv-loop : tie.InvT-loop
-Inv-loop memory₀ bytes ended x₀ at₀ memory x at = Loaded-so-far (x₀ .loading) memory₀ bytes ended at (x .loading) memory
+Inv-loop store₀ bytes ended x₀ at₀ store x at = Loaded-so-far (x₀ .loading) store₀ bytes ended at (x .loading) store
 
 abbrev μ-loop : tie.MeasureT-loop
-μ-loop memory₀ bytes ended x₀ at₀ memory x at = length bytes - at
+μ-loop store₀ bytes ended x₀ at₀ store x at = length bytes - at
 
 loop-holds : tie.Need-loop-holds Inv-loop μ-loop
 loop-holds c = search (needs, loads)
