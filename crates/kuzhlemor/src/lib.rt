@@ -94,9 +94,5 @@ pub extern "C" fn kuzhlemor_step(registers: &mut Registers, memory: &mut [u64]) 
 pub extern "C" fn kuzhlemor_bench(image: &[u8], text: &mut [u8]) -> i64
     ensures { λ r. ⌜ (r ≡ Bench.bench (now (image .entry)) (now (text .entry)) .answer) × (now (text .exit) ≡ Bench.bench (now (image .entry)) (now (text .entry)) .buffer) ⌝ }
 {
-    let x = dosing::bench(image, text);
-    if x.number != 0 {
-        return -(x.number as i64);
-    }
-    x.length as i64
+    calls::signed(dosing::bench(image, text))
 }

@@ -6,8 +6,9 @@ use Prim.Native.Nat.{ℕ, zero, suc}
 use lib.Dec.{ltb, leb, eqb}
 use lib.ListN.{length, take, drop}
 use Rattle.model.specs.Run.{refused}
-use Rattle.model.specs.Image.{Mark, ME, ST, WD, RN, mark-of, record-size, number-at, Loading, nothing-loaded, stored, Image, refused-image, loaded, image-after}
+use Rattle.model.specs.Image.{Mark, ME, ST, WD, RN, mark-of, record-size, number-at, Loading, nothing-loaded, stored, Image, refused-image, loaded, image-after, stored-image}
 use Rattle.model.specs.Listing.{last-line}
+use Rattle.model.specs.Bench.{Called, call-refused, call-wrote}
 
 -- THE RECORDS at the front of some bytes, each as its own bytes. The bytes of a whole record with a known mark; else none
 unfoldable pub size-by : Option Mark → (bytes : ℕ) → ℕ
@@ -72,3 +73,11 @@ convert-after l kept bs = convert-on (image-after l bs) (kept ++ bs)
 
 unfoldable pub convert : List ℕ → List ℕ
 convert bs = convert-after (nothing-loaded stored) [] bs
+
+-- C'S CALL converts an image where it stands; bytes after the new one, and on refusal all, keep what they held
+unfoldable pub convert-call-on : Image → (bytes : List ℕ) → Called
+convert-call-on (refused-image n) bs = call-refused n bs
+convert-call-on (loaded m b) bs = call-wrote (compacted bs) bs
+
+unfoldable pub convert-call : List ℕ → Called
+convert-call bs = convert-call-on (stored-image bs) bs
