@@ -1,12 +1,12 @@
 -- 02, L1: what `convert` makes of a stored image. Assumes nothing: these are definitions.
-use mathlib.Core.Bool.{Bool, false, _&&_, _||_, cond}
+use mathlib.Core.Bool.{Bool, true, false, _&&_, _||_, cond}
 use mathlib.Core.List.{List, [], _∷_, _++_}
 use mathlib.Core.Option.{Option, none, some}
 use Prim.Native.Nat.{ℕ, zero, suc}
 use lib.Dec.{ltb, leb, eqb}
 use lib.ListN.{length, take, drop}
 use Rattle.model.specs.Run.{refused}
-use Rattle.model.specs.Image.{Mark, marked, mark-of, record-size, number-at, Loading, nothing-loaded, stored, Image, refused-image, loaded, image-after}
+use Rattle.model.specs.Image.{Mark, ME, ST, WD, RN, mark-of, record-size, number-at, Loading, nothing-loaded, stored, Image, refused-image, loaded, image-after}
 use Rattle.model.specs.Listing.{last-line}
 
 -- THE RECORDS at the front of some bytes, each as its own bytes. The bytes of a whole record with a known mark; else none
@@ -36,8 +36,15 @@ unfoldable pub left-over : List ℕ → List ℕ
 left-over bs = drop (length (joined (records bs))) bs
 
 -- OF THE WD RECORDS THE LAST OF EACH ADDRESS. 43 and 44 let no WD by with an address of 8,192 or above
+unfoldable pub is-word : Option Mark → Bool
+is-word none = false
+is-word (some ME) = false
+is-word (some ST) = false
+is-word (some WD) = true
+is-word (some RN) = false
+
 unfoldable pub writes : (address : ℕ) → (one : List ℕ) → Bool
-writes a x = marked "W" "D" x && (eqb (number-at 2 4 x) a && ltb a 8192)
+writes a x = is-word (mark-of x) && (eqb (number-at 2 4 x) a && ltb a 8192)
 
 unfoldable pub some-writes : (address : ℕ) → List (List ℕ) → Bool
 some-writes a [] = false
