@@ -4,7 +4,7 @@ use mathlib.Core.List.{List, _++_}
 use Prim.Native.Nat.{ℕ, suc, _+_, _-_, _≤_, _<_}
 use native.Mathlib.Omega.{arith}
 use lib.ListN.{length, take, drop, set, getD, length-drop, take-append-drop}
-use lib.Seq.{take-add, getD-drop, paste-zero, paste-suc, length-paste, take-paste, drop-paste}
+use lib.Seq.{take-add, drop-at, getD-drop, length-take-le, paste-zero, paste-suc, length-paste, take-paste, drop-paste}
 use Rattle.buffers.specs.Move.{moved-down}
 
 module _ (l : List ℕ) (from to : ℕ) where
@@ -55,5 +55,9 @@ module _ (l t : List ℕ) (from to i n : ℕ) (moved : t ≡ moved-down from to 
 
 pub all-moved : (l t : List ℕ) (from to i n : ℕ) → t ≡ moved-down from to i l → i ≤ n → n ≤ i → t ≡ moved-down from to n l
 all-moved l t from to i n moved h g = moved ∙ ap (λ k. moved-down from to k l) (let e : i ≡ n = omega arith in e)
+
+-- the bytes that were moved, as the end of a front
+pub part-of-front : (from n : ℕ) (l : List ℕ) → from ≤ length l → take n (drop from l) ≡ drop from (take (from + n) l)
+part-of-front from n l h = sym (ap (drop from) (take-add from n l) ∙ drop-at (take from l) (take n (drop from l)) from (length-take-le from l h))
 
 pub ruleset moves = (none-moved, moved-nowhere, one-moved, all-moved)

@@ -6,13 +6,13 @@ use Prim.Native.Nat.{ℕ, _+_, _-_, _≤_, _<_}
 use native.Mathlib.Omega.{arith}
 use lib.Dec.{eqb}
 use lib.ListN.{length, take, drop, set, getD, replicate, length-set, length-append, length-drop, length-replicate, take-append-drop}
-use lib.Seq.{take-take, drop-drop, drop-at, drop-append-add, take-add, length-take-le}
+use lib.Seq.{take-take, drop-drop, drop-append-add, length-take-le}
 use mir.Syntax.{w64}
 use mir.Val.{Fits}
 use mir.Facts.{fits-le}
 use Rattle.model.specs.Convert.{records, joined, left-over, superseded, last-of-each, compacted}
 use Rattle.buffers.specs.Move.{moved-down}
-use Rattle.buffers.proofs.MoveLaws.{length-moved, take-moved, drop-moved}
+use Rattle.buffers.proofs.MoveLaws.{length-moved, take-moved, drop-moved, part-of-front}
 use Rattle.compaction.specs.declared.front.FrontRecord.{FrontRecord}
 use Rattle.compaction.specs.Front.{written-word, Front-of}
 use Rattle.compaction.specs.Last.{last-places}
@@ -70,9 +70,6 @@ none-compacted end entry last h p =
       bytes = refl;
     }
 
-take-of-drop : (n k : ℕ) (l : List ℕ) → n ≤ length l → take k (drop n l) ≡ drop n (take (n + k) l)
-take-of-drop n k l h = sym (ap (drop n) (take-add n k l) ∙ drop-at (take n l) (take k (drop n l)) n (length-take-le n l h))
-
 module _ {end : ℕ} {entry last : List ℕ} {from to : ℕ} {b : List ℕ} (i : Compacted-so-far end entry last from to b) where
   -- what is yet to be compacted is as it was
   abbrev left : List ℕ
@@ -81,7 +78,7 @@ module _ {end : ℕ} {entry last : List ℕ} {from to : ℕ} {b : List ℕ} (i :
   left-same : take (end - from) (drop from b) ≡ left
   left-same =
       ap (take (end - from)) (ap (λ n. drop n b) split ∙ sym (drop-drop (from - to) to b) ∙ ap (drop (from - to)) (i .rest-same) ∙ drop-drop (from - to) to entry ∙ ap (λ n. drop n entry) (sym split))
-      ∙ take-of-drop from (end - from) entry (let x = i .room in let y = i .from-within in omega arith)
+      ∙ part-of-front from (end - from) entry (let x = i .room in let y = i .from-within in omega arith)
       ∙ ap (λ n. drop from (take n entry)) (let y = i .from-within in let e : from + (end - from) ≡ end = omega arith in e)
     where
       split : from ≡ to + (from - to)
