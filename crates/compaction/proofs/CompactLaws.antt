@@ -91,7 +91,7 @@ module _ {end : ℕ} {entry last : List ℕ} {from to : ℕ} {b : List ℕ} (i :
     f : Front-of left r
     f = rw left-same at g
 
-    pub one-within : from + r .size ≤ end
+    one-within : from + r .size ≤ end
     one-within = let y = front-in left r f in let z = length-left in let h = i .from-within in omega arith
 
     pub one-fits : Fits w64 end → Fits w64 (from + r .size)
@@ -206,5 +206,6 @@ module _ {end : ℕ} {entry last : List ℕ} {from to : ℕ} {b : List ℕ} (i :
 
 pub ruleset compacts = (none-compacted, one-fits, kept-fits, one-in-buffer, all-compacted, one-less, one-dropped, one-kept)
 
+-- the bytes lent to the first walk
 pub part-size : (n : ℕ) (l : List ℕ) → n ≤ length l → n ≡ length (take n l)
 part-size n l h = sym (length-take-le n l h)

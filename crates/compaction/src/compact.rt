@@ -10,6 +10,7 @@ use crate::last::is_last;
 use crate::last::note_last;
 use buffers::move_down;
 
+// The second walk: what stands at `from` is read as it was, since only bytes before `to` have changed.
 fn keep_last(buffer: &mut [u8], end: usize, last: &[usize; 8193]) -> usize
     requires { ⌜ (end ≤ length (now buffer)) × (now last ≡ last-places 0 (records (take end (now buffer))) (replicate 8193 0)) ⌝ }
     ensures { λ n. ⌜ Compacted end (now (buffer .entry)) n (now (buffer .exit)) ⌝ }
