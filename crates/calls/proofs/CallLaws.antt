@@ -11,7 +11,6 @@ use borrow.Author.Tests.{le-leb, ne-eqb}
 use mir.Syntax.{w64}
 use mir.Val.{SFits, toZ, ofZ}
 use mir.Facts.{toZ-pos, toZ-ofZ}
-use Rattle.model.specs.Image as Image
 use Rattle.model.specs.Bench as Bench
 use Rattle.model.specs.Bench.{negated, call-refused, call-wrote}
 use Rattle.calls.specs.declared.Called.{Called}
