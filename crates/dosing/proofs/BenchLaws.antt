@@ -13,6 +13,7 @@ use Rattle.model.specs.Run.{unless-refused}
 use Rattle.model.specs.Image as Image
 use Rattle.model.specs.Image.{image, refused-image, loaded, checked}
 use Rattle.model.specs.Listing.{listing}
+use Rattle.model.proofs.ImageLaws.{checked-refused, checked-passed}
 use Rattle.model.specs.Bench as Bench
 use Rattle.model.specs.Bench.{call-refused, call-wrote, bench-on, bench}
 use Rattle.segments.specs.View.{as-machine}
@@ -28,7 +29,7 @@ use Rattle.image.specs.declared.load.LoadOutcome.the-variants.{Refused, More, R
 use Rattle.records.specs.View.{rules-of, as-loading, Starts}
 use Rattle.records.specs.Record.{outcome-image}
 use Rattle.image.specs.Load.{as-outcome, Loaded-as}
-use Rattle.image.proofs.LoadLaws.{image-loaded, may-load, words-within}
+use Rattle.image.proofs.LoadLaws.{image-loaded, may-load, words-within, loaded-machine}
 use Rattle.calls.specs.declared.Called.{Called}
 use Rattle.calls.specs.Call.{Called-as}
 use Rattle.calls.proofs.CallLaws.{refuses, wrote}
@@ -36,13 +37,11 @@ use Rattle.calls.proofs.CallLaws.{refuses, wrote}
 -- 1 TO 4
 module _ (b : ℕ) (t : List ℕ) (m : Machine) where
   on-refused : (n : ℕ) → n ≡ start-questions m → (n ≡ 0 → ⊥) → bench-on (checked m b) t ≡ call-refused n t
-  unfolding bench-on checked unless-refused
-  on-refused zero e h = absurd (h refl)
-  on-refused (suc n) e h = rw (← e) refl
+  unfolding bench-on
+  on-refused n e h = ap (λ i. bench-on i t) (checked-refused m b n e h)
 
   on-passed : (n : ℕ) → n ≡ start-questions m → n ≡ 0 → bench-on (checked m b) t ≡ bench-on (loaded m b) t
-  unfolding checked unless-refused
-  on-passed n e z = ap (λ a. bench-on (unless-refused a refused-image (loaded m b)) t) (sym e ∙ z)
+  on-passed n e z = ap (λ i. bench-on i t) (checked-passed m b n e z)
 
   on-45 : length t < 64 * (b + 1) → bench-on (loaded m b) t ≡ call-refused 45 t
   unfolding bench-on
@@ -87,8 +86,7 @@ module _ (l : Loading) (v bs : List ℕ) (x : Loaded) (k : List ℕ) (w : Loaded
   ready-part = sym (length-take-le (x .loading .words) k ready-words)
 
   ready-machine : Image.machine-of (as-loading (x .loading) k) ≡ record { registers = registers-of (x .loading .registers); memory = take (x .loading .words) k }
-  unfolding Image.machine-of Image.memory-of Image.or-else as-loading machine
-  ready-machine = rw (ready-memory, ready-registers) refl
+  ready-machine = loaded-machine (x .loading) k ready-memory ready-registers
 
 module _ (l : Loading) (v bs t : List ℕ) (x : Loaded) (k : List ℕ) (s : Starts false l) (z : v ≡ replicate 8320 0) (w : Loaded-as l v bs true x k) where
   starts-empty : as-loading l v ≡ Image.nothing-loaded Image.today

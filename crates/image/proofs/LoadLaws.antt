@@ -8,6 +8,8 @@ use lib.ListN.{length, take, drop, replicate, length-drop}
 use lib.Seq.{drop-drop, take-all}
 use Rattle.model.specs.Image as Image
 use Rattle.model.specs.Image.{image-after}
+use Rattle.host.specs.Record.{registers-of}
+use Rattle.model.specs.Registers.{machine}
 use Rattle.records.specs.declared.loading.Loading.{Loading}
 use Rattle.records.specs.declared.loading.Outcome.{Outcome}
 use Rattle.records.specs.declared.loading.Outcome.the-variants.{Refused, Waits, Next, Ready}
@@ -92,5 +94,11 @@ may-load v l m s z = s m z .0
 pub words-within : (l : Loading) (m : List ℕ) → Loading-within l m → l .«has_memory» ≡ true → l .words ≤ length m
 unfolding Memory-within
 words-within l m w h = let q = rw h at w .memory-within in omega (arith, w .sized)
+
+-- once ME and ST have come, what is loaded is a machine
+pub loaded-machine : (l : Loading) (m : List ℕ) → l .«has_memory» ≡ true → l .«has_registers» ≡ true →
+    Image.machine-of (as-loading l m) ≡ record { registers = registers-of (l .registers); memory = take (l .words) m }
+unfolding Image.machine-of Image.memory-of Image.or-else as-loading machine
+loaded-machine l m h g = rw (h, g) refl
 
 pub ruleset loads = (no-record-yet, last-refused, last-waits, last-ready, one-more)

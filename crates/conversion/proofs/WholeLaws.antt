@@ -1,0 +1,1 @@
+-- A whole stored image. Assumes nothing.
