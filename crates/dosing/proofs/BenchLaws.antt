@@ -2,16 +2,15 @@
 use mathlib.Core.Path.{_≡_, refl, sym, _∙_, ap, subst}
 use mathlib.Core.Bool.{true, false, false≢true}
 use mathlib.Core.List.{List, []}
-use Prim.Native.Nat.{ℕ, zero, suc, _+_, _-_, _*_, _≤_, _<_}
+use Prim.Native.Nat.{ℕ, _+_, _-_, _*_, _≤_, _<_}
 use native.Mathlib.Omega.{arith}
 use lib.ListN.{length, take, replicate}
 use lib.Seq.{length-take-le}
 use borrow.Author.Tests.{le-leb, lt-leb}
-use Rattle.model.specs.Registers.{Machine, machine}
+use Rattle.model.specs.Registers.{Machine}
 use Rattle.model.specs.Questions.{start-questions}
-use Rattle.model.specs.Run.{unless-refused}
 use Rattle.model.specs.Image as Image
-use Rattle.model.specs.Image.{image, refused-image, loaded, checked}
+use Rattle.model.specs.Image.{image, loaded, checked}
 use Rattle.model.specs.Listing.{listing}
 use Rattle.model.proofs.ImageLaws.{checked-refused, checked-passed}
 use Rattle.model.specs.Bench as Bench
