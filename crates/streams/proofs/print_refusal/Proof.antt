@@ -1,8 +1,9 @@
 -- `print_refusal` meets its contract. Assumes nothing.
 use borrow.Author.Needs.{needs}
-use Rattle.image.proofs.PieceLaws.{part-size}
-use Rattle.simulate.proofs.print_refusal.Statement.{statement}
-use Rattle.simulate.proofs.print_refusal.Tie as tie
+use mathlib.Core.Path.{sym}
+use lib.Seq.{length-take-le}
+use Rattle.streams.proofs.print_refusal.Statement.{statement}
+use Rattle.streams.proofs.print_refusal.Tie as tie
 
 slice-aggregate-put-last-line : tie.Need-slice-aggregate-put-last-line
 slice-aggregate-put-last-line c = search needs
@@ -14,7 +15,7 @@ array-share-prefix-text : tie.Need-array-share-prefix-text
 array-share-prefix-text c = search needs
 
 slice-aggregate-write-all : tie.Need-slice-aggregate-write-all
-slice-aggregate-write-all c = part-size _ _ (array-share-prefix-text (c .before))
+slice-aggregate-write-all c = sym (length-take-le _ _ (array-share-prefix-text (c .before)))
 
 write-all-requires : tie.Need-write-all-requires
 write-all-requires c κs = search needs
