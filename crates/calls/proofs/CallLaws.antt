@@ -71,3 +71,16 @@ wrote y n new t u e s f h =
       buffer-same = h ∙ sym (ap (λ (x : Bench.Called). x .buffer) e);
       fits = f;
     }
+
+-- WHAT A HOST GETS of a call
+module _ (y : Bench.Called) (x : Called) (u : List ℕ) (w : Called-as y x u) where
+  pub answer-fits : x .length < 2 ^ 63
+  answer-fits = w .fits
+
+  pub answered : (r : ℤ) → r ≡ as-answer x → r ≡ y .answer
+  answered r e = e ∙ w .answer-same
+
+  pub buffer-left : u ≡ y .buffer
+  buffer-left = w .buffer-same
+
+pub ruleset calls = (answer-fits, answered, buffer-left)
