@@ -32,10 +32,10 @@ struct Turn {
 }
 
 // The records that an image keeps take at most 114,755 bytes, and fewer than 61 wait.
-fn empty_buffer() -> [u8; 262144]
-    ensures { λ r. ⌜ 262144 ≡ length r ⌝ }
+fn empty_buffer() -> [u8; 524288]
+    ensures { λ r. ⌜ 524288 ≡ length r ⌝ }
 {
-    [0; 262144]
+    [0; 524288]
 }
 
 // Where less than half of the buffer is free, records that later ones supersede are dropped.
@@ -43,7 +43,7 @@ fn with_room(buffer: &mut [u8], kept: usize, size: usize) -> Room
     requires { ⌜ (kept ≤ size) × (size ≤ length (now buffer)) ⌝ }
     ensures { λ r. ⌜ Room-left r (now (buffer .entry)) (now (buffer .exit)) ⌝ }
 {
-    if size <= 131072 {
+    if size <= 262144 {
         return Room { kept, size };
     }
     let n = conversion::make_room(buffer, kept, size);
