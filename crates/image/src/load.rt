@@ -1,6 +1,7 @@
 // Records one after another, until one is refused, the bytes don't hold a whole one, or RN has come.
 ghost use Rattle.records.specs.View.{Loading-within};
 ghost use Rattle.image.specs.Load.{Loaded-as};
+use crate::words::load_next;
 use records::loading::Loading;
 use records::loading::Outcome;
 use records::loading::Recorded;
@@ -30,7 +31,7 @@ pub fn load(loading: Loading, store: &mut [u64], bytes: &[u8], ended: bool) -> L
     };
     let mut at = 0;
     loop {
-        x = records::record::load_record(x.loading, store, &bytes[at..], ended);
+        x = load_next(x.loading, store, &bytes[at..], ended);
         let outcome = x.outcome;
         match outcome {
             Outcome::Refused(n) => {

@@ -51,9 +51,10 @@ pub record Asked-51 (v : Image.Rules) (a : ℕ) (m : List ℕ) (answer : Bool) (
   pub set-now : answer ≡ true → in-set (drop 8192 m-now) ≡ Image.with-written v a (in-set (drop 8192 m))
   pub kept : answer ≡ false → m-now ≡ m
 
--- a record that doesn't ask whether more bytes come
-abbrev pub Recorded-whatever-comes : Loading → (memory bytes : List ℕ) → Recorded → (memory-now : List ℕ) → Type 0
-Recorded-whatever-comes l m bs x m-now = (e : Bool) → Recorded-as l m bs e x m-now
+-- a record that doesn't ask whether more bytes come, and changes nothing but the store
+pub record Recorded-in-store (l : Loading) (m bs : List ℕ) (x : Recorded) (m-now : List ℕ) : Type 0 where
+  pub loading-same : x .loading ≡ l
+  pub recorded : (e : Bool) → Recorded-as l m bs e x m-now
 
 -- one that writes no word, whatever is lent
 abbrev pub Recorded-with-any-memory : Loading → (bytes : List ℕ) → (ended : Bool) → Recorded → Type 0

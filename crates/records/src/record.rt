@@ -5,7 +5,7 @@ ghost use Prim.Native.Nat.{_≤_, _<_};
 ghost use lib.ListN.{length};
 ghost use Rattle.model.specs.Image as Image;
 ghost use Rattle.fields.specs.Mark.{as-mark, size-of};
-ghost use Rattle.records.specs.Record.{Asked-51, Recorded-as, Recorded-by-itself, Recorded-whatever-comes, Recorded-with-any-memory};
+ghost use Rattle.records.specs.Record.{Asked-51, Recorded-as, Recorded-by-itself, Recorded-in-store, Recorded-with-any-memory};
 ghost use Rattle.records.specs.View.{Loading-within, rules-of};
 use crate::loading::Loading;
 use crate::loading::Outcome;
@@ -94,9 +94,9 @@ fn may_write(is_stored: bool, store: &mut [u64], address: usize) -> bool
 }
 
 // WD: 42 before ME, 44, 51, and the word at its address.
-fn load_word(loading: Loading, store: &mut [u64], bytes: &[u8]) -> Recorded
+pub fn load_word(loading: Loading, store: &mut [u64], bytes: &[u8]) -> Recorded
     requires { ⌜ (Image.mark-of (now bytes) ≡ some Image.WD) × (14 ≤ length (now bytes)) × Loading-within loading (now store) ⌝ }
-    ensures { λ x. ⌜ Recorded-whatever-comes loading (now (store .entry)) (now (bytes .entry)) x (now (store .exit)) ⌝ }
+    ensures { λ x. ⌜ Recorded-in-store loading (now (store .entry)) (now (bytes .entry)) x (now (store .exit)) ⌝ }
 {
     if !loading.has_memory {
         return Recorded {

@@ -1,4 +1,5 @@
 -- `record::load_word` meets its contract. Assumes nothing.
+use mathlib.Core.Path.{refl}
 use borrow.Author.Needs.{needs}
 use Rattle.records.specs.Record.{Outcome-within}
 use Rattle.records.proofs.RecordLaws.{word-loaded}
@@ -7,14 +8,14 @@ use Rattle.records.proofs.record.load_word.Tie as tie
 
 returns : tie.Need-returns
 unfolding Outcome-within
-returns c = λ e. search (needs, word-loaded)
+returns c = record { loading-same = refl; recorded = λ e. search (needs, word-loaded) }
 
 number-4-requires : tie.Need-number-4-requires
 number-4-requires c κs = search needs
 
 returns-2 : tie.Need-returns-2
 unfolding Outcome-within
-returns-2 c = λ e. search (needs, word-loaded)
+returns-2 c = record { loading-same = refl; recorded = λ e. search (needs, word-loaded) }
 
 cast-i : tie.Need-cast-i
 cast-i c = search needs
@@ -27,7 +28,7 @@ same-length c = search needs
 
 returns-3 : tie.Need-returns-3
 unfolding Outcome-within
-returns-3 c = λ e. search (needs, word-loaded)
+returns-3 c = record { loading-same = refl; recorded = λ e. search (needs, word-loaded) }
 
 number-8-requires : tie.Need-number-8-requires
 number-8-requires c κs = search needs
@@ -43,7 +44,7 @@ same-length-2 c = search needs
 
 returns-4 : tie.Need-returns-4
 unfolding Outcome-within
-returns-4 c = λ e. search (needs, word-loaded)
+returns-4 c = record { loading-same = refl; recorded = λ e. search (needs, word-loaded) }
 
 pub load-word-spec : {M : Type 1} → statement M
 load-word-spec =
