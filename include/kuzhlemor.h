@@ -89,7 +89,7 @@ kuzhlemor_reply kuzhlemor_run(kuzhlemor_registers *registers, uint64_t *memory, 
  *   -45  text has 64 bytes for each line there may be: 64 * (budget + 1)
  * Bytes of text after the listing, and on refusal all of them, keep what they held. image and text aren't null, not even
  * when their lengths are 0, and don't overlap.
- * The call takes about 67 KiB of stack, most of it for the image's memory; kuzhlemor_step and kuzhlemor_run take less
+ * The call takes about 68 KiB of stack, most of it for the image's memory; kuzhlemor_step and kuzhlemor_run take less
  * than 512 bytes. */
 int64_t kuzhlemor_bench(const uint8_t *image, size_t image_length, uint8_t *text, size_t text_length);
 
@@ -98,7 +98,7 @@ int64_t kuzhlemor_bench(const uint8_t *image, size_t image_length, uint8_t *text
  * new image loads as the old one did. Answers the new image's length, or a question's number negated:
  *   -41 to -44, -1 to -4  as above, of the old image; 51 isn't asked of it
  * Bytes after the new image, and on refusal all of them, keep what they held. image isn't null, not even when its length
- * is 0. */
+ * is 0. The call takes about 130 KiB of stack. */
 int64_t kuzhlemor_convert(uint8_t *image, size_t image_length);
 
 /* The layout that the library was built for. */
