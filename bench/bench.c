@@ -1,5 +1,6 @@
 /* The library's time against a plain C and a plain Rust processor's, on four programs that loop until the budget is spent, on
- * single steps, and on listings. They run in turn from the same start, the best time of each counts, and all must end alike. */
+ * single steps, on listings, and on the largest images, loaded and converted. They run in turn from the same start, the best
+ * time of each counts, and all must end alike. */
 #define _POSIX_C_SOURCE 199309L
 
 #include "images.h"
@@ -26,6 +27,7 @@ typedef struct {
 typedef kuzhlemor_reply run_function(kuzhlemor_registers *, uint64_t *, size_t, uint32_t);
 typedef kuzhlemor_reply step_function(kuzhlemor_registers *, uint64_t *, size_t);
 typedef int64_t bench_function(const uint8_t *, size_t, uint8_t *, size_t);
+typedef int64_t convert_function(uint8_t *, size_t);
 
 /* The second implementation, in Rust (bench/rust). */
 run_function rust_run;
@@ -272,6 +274,81 @@ static void measure_listing(const char *name, machine (*make)(void))
     print_row(name, LISTED, best);
 }
 
+enum {
+    MOST_WORDS = 8192,
+    LOADS = 2000,
+    LARGEST = IMAGE_ROOM(2 * MOST_WORDS)
+};
+
+/* An image of the most words with `wds` WDs, `per_address` for each address, in a scattered order: 10,007 is odd, so that
+ * its multiples go through all numbers below a power of 2 before one comes again. */
+static size_t put_largest(uint8_t *image, uint32_t wds, uint32_t per_address)
+{
+    static const kuzhlemor_registers zero;
+    uint8_t *to = put_st(put_me(image, MOST_WORDS), &zero);
+
+    for (uint32_t k = 0; k < wds; k++)
+        to = put_wd(to, k * 10007 % wds / per_address, k * 0x9e3779b97f4a7c15);
+    return (size_t)(put_rn(to, 0) - image);
+}
+
+/* An image loaded whole, and no step of it run. */
+static void measure_loading(const char *name)
+{
+    static uint8_t image[LARGEST];
+    size_t length = put_largest(image, MOST_WORDS, 1);
+    double best[CONTESTANTS] = {0};
+
+    for (int round = 0; round < LOADS; round++)
+        for (int k = 0; k < CONTESTANTS; k++) {
+            uint8_t text[64];
+            double before = now();
+            int64_t answer = contestants[k].bench(image, length, text, sizeof text);
+
+            keep_least(&best[k], now() - before);
+            if (answer != 8 || memcmp(text, "spent 0\n", 8) != 0)
+                differ(name);
+        }
+    print_row(name, MOST_WORDS, best);
+}
+
+/* The time of a conversion, and in `end` what it leaves. Every one has the same place in memory. */
+static double timed_conversion(convert_function *convert, const uint8_t *from, size_t length, uint8_t *end, int64_t *answer)
+{
+    static _Alignas(4096) uint8_t image[LARGEST];
+    double before;
+    double time;
+
+    memcpy(image, from, length);
+    before = now();
+    *answer = convert(image, length);
+    time = now() - before;
+    memcpy(end, image, length);
+    return time;
+}
+
+/* Every address twice, so that half of the WDs go. There is no plain Rust to set beside this. */
+static void measure_converting(const char *name)
+{
+    static uint8_t from[LARGEST];
+    static uint8_t x[LARGEST];
+    static uint8_t y[LARGEST];
+    size_t length = put_largest(from, 2 * MOST_WORDS, 2);
+    double plain = 0;
+    double library = 0;
+
+    for (int round = 0; round < LOADS; round++) {
+        int64_t answers[2];
+
+        keep_least(&plain, timed_conversion(plain_convert, from, length, x, &answers[0]));
+        keep_least(&library, timed_conversion(kuzhlemor_convert, from, length, y, &answers[1]));
+        if (answers[0] != (int64_t)(length - 14 * MOST_WORDS) || answers[0] != answers[1] || memcmp(x, y, length) != 0)
+            differ(name);
+    }
+    printf("%-32s %10.2f %10s %10.2f %12.2f %12s\n", name, plain / (2 * MOST_WORDS), "-", library / (2 * MOST_WORDS),
+           library / plain, "-");
+}
+
 int main(void)
 {
     static const row rows[] = {
@@ -291,5 +368,8 @@ int main(void)
     measure_listing("arithmetic, listed", arithmetic);
     measure_listing("loads and stores, listed", loads_and_stores);
     measure_listing("calls and returns, listed", calls_and_returns);
+    printf("%-32s %10s %10s %10s\n", "image", "ns a WD", "ns a WD", "ns a WD");
+    measure_loading("8,192 WDs, loaded");
+    measure_converting("16,384 WDs, converted");
     return 0;
 }

@@ -17,4 +17,7 @@ size_t plain_list(kuzhlemor_registers *registers, uint64_t *memory, size_t words
 /* As kuzhlemor_bench. */
 int64_t plain_bench(const uint8_t *image, size_t image_length, uint8_t *text, size_t text_length);
 
+/* As kuzhlemor_convert. */
+int64_t plain_convert(uint8_t *image, size_t image_length);
+
 #endif

@@ -2,9 +2,16 @@
 #include "images.h"
 #include "plain_step.h"
 
+#include <string.h>
+
 enum {
     MOST_IMAGE_WORDS = 8192
 };
+
+/* By the old rules an address may have several WDs, and the last holds. */
+typedef enum {
+    TODAYS_RULES, OLD_RULES
+} rules;
 
 /* What an image records. */
 typedef struct {
@@ -65,18 +72,24 @@ size_t plain_list(kuzhlemor_registers *registers, uint64_t *memory, size_t words
     return (size_t)(put(put_word(to, "spent "), budget, '\n') - text);
 }
 
-/* 41 to 44 of each record, in order; the number of the first no, or 0. */
-static int load(const uint8_t *image, size_t length, image_machine *m)
+static bool has_mark(const uint8_t *record, const char *mark)
 {
+    return record[0] == mark[0] && record[1] == mark[1];
+}
+
+/* 41 to 44 and 51 of each record, in order; the number of the first no, or 0. */
+static int load(const uint8_t *image, size_t length, rules by, image_machine *m)
+{
+    uint64_t written[MOST_IMAGE_WORDS / 64] = {0};
     bool has_registers = false;
     bool has_memory = false;
 
     while (length > 0) {
         const uint8_t *numbers = image + 2;
-        bool me = length >= 2 && image[0] == 'M' && image[1] == 'E';
-        bool st = length >= 2 && image[0] == 'S' && image[1] == 'T';
-        bool wd = length >= 2 && image[0] == 'W' && image[1] == 'D';
-        bool rn = length >= 2 && image[0] == 'R' && image[1] == 'N';
+        bool me = length >= 2 && has_mark(image, "ME");
+        bool st = length >= 2 && has_mark(image, "ST");
+        bool wd = length >= 2 && has_mark(image, "WD");
+        bool rn = length >= 2 && has_mark(image, "RN");
         size_t size = st ? 61 : wd ? 14 : 6;
 
         if (!(me || st || wd || rn) || length < size)
@@ -92,9 +105,15 @@ static int load(const uint8_t *image, size_t length, image_machine *m)
             m->registers = registers_at(numbers);
             has_registers = true;
         } else if (wd) {
-            if (number_at(numbers, 4) >= m->words)
+            uint64_t address = number_at(numbers, 4);
+            uint64_t bit = (uint64_t)1 << address % 64;
+
+            if (address >= m->words)
                 return 44;
-            m->memory[number_at(numbers, 4)] = number_at(numbers + 4, 8);
+            if (by == TODAYS_RULES && (written[address / 64] & bit) != 0)
+                return 51;
+            written[address / 64] |= bit;
+            m->memory[address] = number_at(numbers + 4, 8);
         } else {
             m->budget = (uint32_t)number_at(numbers, 4);
             return 0;
@@ -105,16 +124,51 @@ static int load(const uint8_t *image, size_t length, image_machine *m)
     return 42;
 }
 
+/* The same, then 1 to 4. */
+static int load_and_ask(const uint8_t *image, size_t length, rules by, image_machine *m)
+{
+    int number = load(image, length, by, m);
+
+    return number != 0 ? number : (int)refusal(&m->registers, m->words);
+}
+
 int64_t plain_bench(const uint8_t *image, size_t image_length, uint8_t *text, size_t text_length)
 {
     image_machine m = {0};
-    int number = load(image, image_length, &m);
+    int number = load_and_ask(image, image_length, TODAYS_RULES, &m);
 
-    if (number == 0)
-        number = (int)refusal(&m.registers, m.words);
     if (number == 0 && text_length < 64 * ((uint64_t)m.budget + 1))
         number = 45;
     if (number != 0)
         return -number;
     return (int64_t)plain_list(&m.registers, m.memory, m.words, m.budget, text);
+}
+
+/* The size of a record of an accepted image. */
+static size_t record_size(const uint8_t *record)
+{
+    return has_mark(record, "ST") ? 61 : has_mark(record, "WD") ? 14 : 6;
+}
+
+int64_t plain_convert(uint8_t *image, size_t image_length)
+{
+    image_machine m = {0};
+    size_t last[MOST_IMAGE_WORDS];
+    size_t kept = 0;
+    size_t size;
+    int number = load_and_ask(image, image_length, OLD_RULES, &m);
+
+    if (number != 0)
+        return -number;
+    for (size_t at = 0; at < image_length; at += record_size(image + at))
+        if (has_mark(image + at, "WD"))
+            last[number_at(image + at + 2, 4)] = at;
+    for (size_t at = 0; at < image_length; at += size) {
+        size = record_size(image + at);
+        if (has_mark(image + at, "WD") && last[number_at(image + at + 2, 4)] != at)
+            continue;
+        memmove(image + kept, image + at, size);
+        kept += size;
+    }
+    return (int64_t)kept;
 }

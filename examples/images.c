@@ -116,6 +116,15 @@ static machine low_pr(void)
     return m;
 }
 
+/* A machine's image, and at its end word 18 as an editor wrote it once more: the dose goes to the formula's word. */
+static void write_again(const char *folder, const char *name, const machine *m)
+{
+    uint8_t image[IMAGE_ROOM(WORDS + 1)];
+    uint8_t *rn = image + put_image(image, &m->registers, m->memory, WORDS, 100) - 6;
+
+    write_image(folder, name, image, (size_t)(put_rn(put_wd(rn, 18, by_pr(STA, 2, 2)), 100) - image));
+}
+
 int main(int argc, char **argv)
 {
     static const struct {
@@ -141,5 +150,10 @@ int main(int argc, char **argv)
     }
     /* A file that was cut off before RN. */
     write_image(folder, "without-rn", image, length - 6);
+    /* Two WDs for one address, and what the conversion keeps: the last. */
+    m = blend();
+    write_again(folder, "written-twice", &m);
+    m.memory[18] = 0;
+    write_again(folder, "written-twice-converted", &m);
     return 0;
 }

@@ -1,6 +1,6 @@
 /* The ring processor as a C library: one step, or a run under a budget, over a register record and a memory that the
- * caller lends; and a whole image run for its listing. Link with libkuzhlemor.a (x86-64, System V calling convention),
- * which needs nothing but memset.
+ * caller lends; a whole image run for its listing; and a stored image of the old rules made into one of today's. Link
+ * with libkuzhlemor.a (x86-64, System V calling convention), which needs nothing but memset.
  *
  * The caller tests nothing first. Any values in the record and in memory, broken ones too, any number of words and any
  * budget get a defined reply. What the caller owes is the usual of C:
@@ -84,13 +84,22 @@ kuzhlemor_reply kuzhlemor_run(kuzhlemor_registers *registers, uint64_t *memory, 
  *   -42  ME comes first and once, ST once and before RN, RN comes once and last
  *   -43  ME says at most 8,192 words
  *   -44  a WD's address is below ME's number
+ *   -51  no earlier WD has the address
  *   -1 to -4  as above, of what the image records
  *   -45  text has 64 bytes for each line there may be: 64 * (budget + 1)
  * Bytes of text after the listing, and on refusal all of them, keep what they held. image and text aren't null, not even
  * when their lengths are 0, and don't overlap.
- * The call takes about 67 KiB of stack, most of it for the image's memory; kuzhlemor_step and kuzhlemor_run take less
+ * The call takes about 68 KiB of stack, most of it for the image's memory; kuzhlemor_step and kuzhlemor_run take less
  * than 512 bytes. */
 int64_t kuzhlemor_bench(const uint8_t *image, size_t image_length, uint8_t *text, size_t text_length);
+
+/* Makes a stored image of the old rules, by which an address might have several WDs and the last of them held, into one of
+ * today's, in place. ME, ST and RN stay, and of the WDs of each address the last, all in the order in which they stood: the
+ * new image loads as the old one did. Answers the new image's length, or a question's number negated:
+ *   -41 to -44, -1 to -4  as above, of the old image; 51 isn't asked of it
+ * Bytes after the new image, and on refusal all of them, keep what they held. image isn't null, not even when its length
+ * is 0. The call takes about 130 KiB of stack. */
+int64_t kuzhlemor_convert(uint8_t *image, size_t image_length);
 
 /* The layout that the library was built for. */
 static_assert(sizeof(size_t) == 8, "64-bit lengths");

@@ -1,4 +1,4 @@
-//! Images: ME, ST, WD and RN records, and the questions 41 to 44, then 1 to 4.
+//! Images: ME, ST, WD and RN records, and the questions 41 to 44 and 51, then 1 to 4.
 
 use crate::machine::{refusal, Registers};
 use crate::words::{Dbr, Pointer};
@@ -14,8 +14,18 @@ pub struct Image {
 /// The most words of memory that ME may give.
 pub const ME_LIMIT: u32 = 8_192;
 
+/// Which WDs an image may have.
+#[derive(Clone, Copy, Debug, PartialEq, Eq)]
+enum Rules {
+    /// One for each address: 51.
+    Today,
+    /// Any: the later of two wins. So were stored images written, before 51.
+    Stored,
+}
+
 /// A record without its mark.
-enum Record {
+#[derive(Clone, Copy, Debug, PartialEq, Eq)]
+pub enum Record {
     Me { words: u32 },
     St { registers: Registers },
     Wd { address: u32, word: u64 },
@@ -82,11 +92,31 @@ impl Bytes<'_> {
     }
 }
 
-/// The image in `bytes`, or the number of the first question that is answered no: 41 to 44 record by record, then 1
-/// to 4.
+/// The records one after another, each with its bytes, up to the first that isn't whole.
+pub fn records(bytes: &[u8]) -> impl Iterator<Item = (Record, &[u8])> {
+    let mut rest = Bytes(bytes);
+    std::iter::from_fn(move || {
+        let before = rest.0;
+        let record = rest.record()?;
+        Some((record, &before[..before.len() - rest.0.len()]))
+    })
+}
+
+/// The image in `bytes`, or the number of the first question that is answered no: 41 to 44 and 51 record by record, then
+/// 1 to 4.
 pub fn read_image(bytes: &[u8]) -> Result<Image, u8> {
+    read(bytes, Rules::Today)
+}
+
+/// What a stored image means: 51 isn't asked, and the later of two WDs wins.
+pub fn read_stored_image(bytes: &[u8]) -> Result<Image, u8> {
+    read(bytes, Rules::Stored)
+}
+
+fn read(bytes: &[u8], rules: Rules) -> Result<Image, u8> {
     let mut bytes = Bytes(bytes);
-    let mut memory: Option<Vec<u64>> = None;
+    // The words that WDs have given.
+    let mut given: Option<Vec<Option<u64>>> = None;
     let mut registers: Option<Registers> = None;
     let mut budget: Option<u32> = None;
 
@@ -97,7 +127,7 @@ pub fn read_image(bytes: &[u8]) -> Result<Image, u8> {
         }
         // 41
         let record = bytes.record().ok_or(41)?;
-        match (record, &mut memory) {
+        match (record, &mut given) {
             // 42: ME first and single?
             (Record::Me { .. }, Some(_)) => return Err(42),
             (Record::St { .. } | Record::Wd { .. } | Record::Rn { .. }, None) => return Err(42),
@@ -106,7 +136,7 @@ pub fn read_image(bytes: &[u8]) -> Result<Image, u8> {
                 if words > ME_LIMIT {
                     return Err(43);
                 }
-                memory = Some(vec![0; words as usize]);
+                given = Some(vec![None; words as usize]);
             }
             (Record::St { registers: handed }, Some(_)) => {
                 // 42: ST single?
@@ -115,9 +145,14 @@ pub fn read_image(bytes: &[u8]) -> Result<Image, u8> {
                 }
                 registers = Some(handed);
             }
-            (Record::Wd { address, word }, Some(memory)) => {
+            (Record::Wd { address, word }, Some(given)) => {
                 // 44: WD address below ME's number?
-                *memory.get_mut(address as usize).ok_or(44)? = word;
+                let place = given.get_mut(address as usize).ok_or(44)?;
+                // 51: has no earlier WD the address?
+                if place.is_some() && rules == Rules::Today {
+                    return Err(51);
+                }
+                *place = Some(word);
             }
             (Record::Rn { budget: handed }, Some(_)) => {
                 // 42: ST before RN?
@@ -130,10 +165,12 @@ pub fn read_image(bytes: &[u8]) -> Result<Image, u8> {
     }
 
     // 42 is also no for a file without RN, and for an empty one.
-    let (Some(registers), Some(memory), Some(budget)) = (registers, memory, budget) else {
+    let (Some(registers), Some(given), Some(budget)) = (registers, given, budget) else {
         return Err(42);
     };
     // 1 to 4
-    refusal(&registers, memory.len())?;
+    refusal(&registers, given.len())?;
+    // Memory is all zero but for the words given.
+    let memory = given.into_iter().map(Option::unwrap_or_default).collect();
     Ok(Image { registers, memory, budget })
 }

@@ -1,19 +1,24 @@
-//! A second implementation of the ring processor, written from document 01 alone, to be compared with the first.
+//! A second implementation of the ring processor, written from document 01 and request L1 of document 02 alone, to be
+//! compared with the first.
 //!
 //! It reads like the paper: `words` has the descriptor, the pointer word and the instruction; `machine` the registers,
-//! the questions, a step and a run; `image` the records; `listing` the text; `bench` the call of the bench's firmware.
-//! A comment that starts with a number is the question of that number.
+//! the questions, a step and a run; `image` the records; `listing` the text; `bench` the call of the bench's firmware;
+//! `convert` the program for stored images. `repeats` has directed images with what each of them asks for; they are for
+//! the tests and the comparison. A comment that starts with a number is the question of that number.
 
 #![forbid(unsafe_code)]
 
 pub mod bench;
+pub mod convert;
 pub mod image;
 pub mod listing;
 pub mod machine;
+pub mod repeats;
 pub mod words;
 
 pub use bench::bench;
-pub use image::{read_image, Image};
+pub use convert::{convert, converted};
+pub use image::{read_image, read_stored_image, Image};
 pub use listing::list;
 pub use machine::{run, step, Fault, Registers, Reply};
 pub use words::{Dbr, Descriptor, Instruction, Opcode, Pointer, PointerWord};

@@ -1,5 +1,5 @@
-/* kuzhlemor_bench as the firmware calls it: texts worked out by hand, 45 at its bound, what stays of the buffer, and random,
- * cut and damaged images against plain C, byte for byte. */
+/* kuzhlemor_bench as the firmware calls it: texts worked out by hand, 45 at its bound, what stays of the buffer, 51 of every
+ * address, and random, cut and damaged images against plain C, byte for byte. */
 #include "images.h"
 #include "machine.h"
 
@@ -10,11 +10,12 @@
 enum {
     IMAGES = 20000,
     MOST_BUDGET = 60,
+    MOST_WORDS = 8192,
     ROOM = 64 * (MOST_BUDGET + 1),
     FILLER = 0xa5
 };
 
-static uint8_t image[IMAGE_ROOM(CAPACITY) + 64];
+static uint8_t image[IMAGE_ROOM(MOST_WORDS) + 64];
 
 static size_t image_of(const machine *m, uint32_t budget)
 {
@@ -75,18 +76,80 @@ static void refusals(void)
     expect("2 before 3", image_of(&m, 9), 640, -2, "");
 }
 
-/* The later of two WD wins: the first instruction becomes zero. */
-static void later_word(void)
+/* ME of 16 words, this ST if there is one, and WDs of these addresses with 1, 2, 3 and so on as words. */
+static uint8_t *put_wds(const kuzhlemor_registers *st, const uint32_t *addresses, size_t count)
 {
-    machine m = case_12();
-    uint8_t *end = put_st(put_me(image, (uint32_t)m.words), &m.registers);
+    uint8_t *end = put_me(image, 16);
 
-    for (uint32_t k = 0; k < m.words; k++)
-        if (m.memory[k] != 0)
-            end = put_wd(end, k, m.memory[k]);
-    end = put_wd(end, 16, 0);
-    end = put_rn(end, 9);
-    expect("a later WD", (size_t)(end - image), 640, 17, "fault 32 0 4 4 0\n");
+    if (st != NULL)
+        end = put_st(end, st);
+    for (size_t k = 0; k < count; k++)
+        end = put_wd(end, addresses[k], k + 1);
+    return end;
+}
+
+static size_t up_to(const uint8_t *end)
+{
+    return (size_t)(end - image);
+}
+
+/* 51: an earlier WD has the address. */
+static void words_written_twice(void)
+{
+    static const uint32_t twice[] = {3, 3};
+    static const uint32_t apart[] = {3, 0, 15, 4, 3};
+    static const uint32_t third[] = {5, 9, 9, 5};
+    static const uint32_t past[] = {3, 16, 16};
+    static const uint32_t once[] = {15, 3, 0, 4};
+    kuzhlemor_registers good = {0};
+    kuzhlemor_registers low_pr = {.ipr = {.ring = 1}};
+    kuzhlemor_registers high_ring = {.prs = {{.ring = 8}}};
+    kuzhlemor_registers long_dbr = {.dbr = {0, 17}};
+    uint8_t *end;
+
+    expect("each address once", up_to(put_rn(put_wds(&good, once, 4), 0)), 64, 8, "spent 0\n");
+    expect("two WDs in a row", up_to(put_rn(put_wds(&good, twice, 2), 0)), 64, -51, "");
+    expect("two WDs apart", up_to(put_rn(put_wds(&good, apart, 5), 0)), 64, -51, "");
+    expect("two WDs and no more", up_to(put_wds(NULL, twice, 2)), 64, -51, "");
+    expect("two addresses twice", up_to(put_wds(NULL, third, 4)), 64, -51, "");
+    expect("and the first of them alone", up_to(put_wds(NULL, third, 3)), 64, -51, "");
+    end = put_wd(put_st(put_me(image, 16), &good), 7, 1);
+    end = put_rn(put_wd(end, 7, 1), 0);
+    expect("equal words", up_to(end), 64, -51, "");
+    end = put_wd(put_wd(put_me(image, 16), 7, 0), 7, 0);
+    expect("words of zero", up_to(end), 64, -51, "");
+    end = put_wd(put_st(put_wd(put_me(image, 16), 7, 1), &good), 7, 2);
+    expect("ST between two WDs", up_to(put_rn(end, 0)), 64, -51, "");
+
+    expect("44 of an address that comes again", up_to(put_wds(NULL, past, 3)), 64, -44, "");
+    expect("51, then 44", up_to(put_wd(put_wds(NULL, twice, 2), 16, 0)), 64, -51, "");
+    expect("44, then 51", up_to(put_wd(put_wds(NULL, past, 2), 3, 0)), 64, -44, "");
+    expect("51, then no such mark", up_to(put_mark(put_wds(NULL, twice, 2), "wd")), 64, -51, "");
+    expect("51, then a part of a record", up_to(put_mark(put_wds(NULL, twice, 2), "WD")), 64, -51, "");
+    expect("the second WD cut off", up_to(put_wds(NULL, twice, 2)) - 1, 64, -41, "");
+    expect("51, then a second ME", up_to(put_me(put_wds(NULL, twice, 2), 16)), 64, -51, "");
+    expect("51, then 42 for no ST", up_to(put_rn(put_wds(NULL, twice, 2), 0)), 64, -51, "");
+    expect("two WDs before ME", up_to(put_me(put_wd(put_wd(image, 3, 1), 3, 1), 16)), 64, -42, "");
+    expect("a second WD after RN", up_to(put_wd(put_rn(put_wds(&good, twice, 1), 0), 3, 1)), 64, -42, "");
+    expect("51 before 2", up_to(put_rn(put_wds(&high_ring, twice, 2), 0)), 64, -51, "");
+    expect("51 before 3", up_to(put_rn(put_wds(&low_pr, twice, 2), 0)), 64, -51, "");
+    expect("51 before 4", up_to(put_rn(put_wds(&long_dbr, twice, 2), 0)), 64, -51, "");
+    expect("51 before 45", up_to(put_rn(put_wds(&good, twice, 2), 0)), 0, -51, "");
+}
+
+/* No two addresses are taken for one, and none is overlooked. */
+static void every_address(void)
+{
+    static const kuzhlemor_registers zero;
+    uint8_t *end = put_st(put_me(image, MOST_WORDS), &zero);
+
+    for (uint32_t k = 0; k < MOST_WORDS; k++)
+        end = put_wd(end, k, k);
+    expect("all addresses", up_to(put_rn(end, 0)), 64, 8, "spent 0\n");
+    for (uint32_t k = 0; k < MOST_WORDS; k++) {
+        end = put_wd(put_wd(put_me(image, MOST_WORDS), k, 1), k, 2);
+        expect("an address twice", up_to(end), 0, -51, "");
+    }
 }
 
 static void compare(size_t length, size_t room)
@@ -104,17 +167,34 @@ static void compare(size_t length, size_t room)
     check(memcmp(x, y, sizeof x) == 0, "a byte of the buffer differs");
 }
 
+/* Puts one more WD before RN, for the address of a WD that is there or for any of a few. */
+static void write_again(size_t rn, uint32_t budget)
+{
+    uint32_t address = random_below(CAPACITY);
+
+    if (rn > 67 && random_below(2) == 0)
+        address = (uint32_t)number_at(image + 67 + 14 * (size_t)random_below((uint32_t)(rn - 67) / 14) + 2, 4);
+    put_rn(put_wd(image + rn, address, 0), budget);
+}
+
 static void random_images(void)
 {
     for (int k = 0; k < IMAGES; k++) {
         machine m = random_machine();
         uint32_t budget = random_below(MOST_BUDGET + 1);
         size_t length = image_of(&m, budget);
+        uint32_t at;
+        uint8_t bit;
 
         compare(length, 64 * (size_t)(budget + 1) - random_below(2));
         compare(random_below((uint32_t)length + 1), ROOM);
-        image[random_below((uint32_t)length)] ^= (uint8_t)(1 << random_below(8));
+        at = random_below((uint32_t)length);
+        bit = (uint8_t)(1 << random_below(8));
+        image[at] ^= bit;
         compare(length, ROOM);
+        image[at] ^= bit;
+        write_again(length - 6, budget);
+        compare(length + 14, ROOM);
     }
 }
 
@@ -138,7 +218,8 @@ int main(void)
 {
     case_12_whole();
     refusals();
-    later_word();
+    words_written_twice();
+    every_address();
     damaged_images();
     random_images();
     printf("tests/c/bench: %lu checks passed\n", checks);

@@ -1,5 +1,6 @@
 /* A fuzzer's input compared: the plain C processor, built for coverage, and the library must give the same answer, registers
- * and memory, byte for byte. An input's first byte says whether the rest is an image or a register record and a memory. */
+ * and memory, byte for byte. An input's first byte says whether the rest is an image, which is run and converted, or a
+ * register record and a memory. */
 #include "images.h"
 #include "kuzhlemor.h"
 #include "padding.h"
@@ -43,6 +44,22 @@ static void compare_images(const uint8_t *image, size_t length, uint8_t how)
     require(memcmp(x, y, sizeof x) == 0, "a byte of the buffer");
 }
 
+/* An image converted in place, with a byte behind it that must stay. */
+static void compare_conversions(const uint8_t *image, size_t length)
+{
+    uint8_t *x = malloc(length + 1);
+    uint8_t *y = malloc(length + 1);
+
+    require(x != NULL && y != NULL, "no memory");
+    memcpy(x, image, length);
+    memcpy(y, image, length);
+    x[length] = y[length] = 0xa5;
+    require(plain_convert(x, length) == kuzhlemor_convert(y, length), "the converter's answer");
+    require(memcmp(x, y, length + 1) == 0, "a byte of the converted image");
+    free(x);
+    free(y);
+}
+
 /* The record of an ST, then the words of memory; a run, and a step after it. The library's record has the input's last bytes
  * as padding, whatever else they are. */
 static void compare_machines(const uint8_t *bytes, size_t length, uint8_t how)
@@ -77,9 +94,11 @@ int LLVMFuzzerTestOneInput(const uint8_t *data, size_t size)
 {
     if (size < 2)
         return 0;
-    if (data[0] & 1)
+    if (data[0] & 1) {
         compare_images(data + 2, size - 2, data[1]);
-    else
+        compare_conversions(data + 2, size - 2);
+    } else {
         compare_machines(data + 2, size - 2, data[1]);
+    }
     return 0;
 }

@@ -2,65 +2,60 @@
 ghost use Rattle.model.specs.Image.{checked};
 ghost use Rattle.model.specs.Bench as Bench;
 ghost use Rattle.host.specs.Record.{machine-of};
-ghost use Rattle.dosing.specs.Bench.{Benched-as};
+ghost use Rattle.calls.specs.Call.{Called-as};
+use calls::Called;
 use host::record::Registers;
 use image::load::LoadOutcome;
 
-// The number of the question that refused, or 0 and the text's length.
-pub struct Benched {
-    pub number: u8,
-    pub length: usize,
-}
-
 // What an image gave, run whole: 1 to 4, then 45, then the listing.
-pub fn list_loaded(
-    registers: Registers,
-    memory: &mut [u64],
-    budget: u32,
-    text: &mut [u8],
-) -> Benched
-    ensures { λ x. ⌜ Benched-as (Bench.bench-on (checked (machine-of registers (now (memory .entry))) budget) (now (text .entry))) x (now (text .exit)) ⌝ }
+pub fn list_loaded(registers: Registers, memory: &mut [u64], budget: u32, text: &mut [u8]) -> Called
+    ensures { λ x. ⌜ Called-as (Bench.bench-on (checked (machine-of registers (now (memory .entry))) budget) (now (text .entry))) x (now (text .exit)) ⌝ }
 {
     let x = machine::prepare(registers, memory);
     if x.number != 0 {
-        return Benched {
+        return Called {
             number: x.number,
             length: 0,
         };
     }
     if text.len() < 64 * (budget as usize + 1) {
-        return Benched {
+        return Called {
             number: 45,
             length: 0,
         };
     }
     let prs = x.prs;
-    Benched {
+    Called {
         number: 0,
         length: listing::list_whole(x.core, prs, memory, budget, text),
     }
 }
 
-pub fn bench(image: &[u8], text: &mut [u8]) -> Benched
-    ensures { λ x. ⌜ Benched-as (Bench.bench (now (image .entry)) (now (text .entry))) x (now (text .exit)) ⌝ }
+pub fn bench(image: &[u8], text: &mut [u8]) -> Called
+    ensures { λ x. ⌜ Called-as (Bench.bench (now (image .entry)) (now (text .entry))) x (now (text .exit)) ⌝ }
 {
-    let mut memory = records::loading::empty_memory();
-    let x = image::load::load(records::loading::nothing_loaded(), &mut memory, image, true);
+    let mut store = records::loading::empty_store();
+    let x = image::load::load(
+        records::loading::nothing_loaded(false),
+        &mut store,
+        image,
+        true,
+    );
     let loading = x.loading;
     let outcome = x.outcome;
     match outcome {
-        LoadOutcome::Refused(n) => Benched {
+        LoadOutcome::Refused(n) => Called {
             number: n,
             length: 0,
         },
-        LoadOutcome::More(_used) => Benched {
+        LoadOutcome::More(_used) => Called {
             number: 41,
             length: 0,
         },
         LoadOutcome::Ready(budget) => {
             let words = loading.words as usize;
             let registers = loading.registers;
-            list_loaded(registers, &mut memory[..words], budget, text)
+            list_loaded(registers, &mut store[..words], budget, text)
         }
     }
 }

@@ -1,27 +1,29 @@
 -- Records one after another: what holds between two of them, and a law for each outcome of the last. Assumes nothing.
-use mathlib.Core.Path.{_≡_, refl, sym, _∙_, ap, ap₂}
-use mathlib.Core.Bool.{Bool, true}
+use mathlib.Core.Path.{_≡_, refl, sym, _∙_, ap, ap₂, subst}
+use mathlib.Core.Bool.{Bool, true, false, _&&_}
+use mathlib.Core.Option.{some}
 use mathlib.Core.List.{List, [], _++_, append-nil}
-use Prim.Native.Nat.{ℕ, _+_, _-_, _≤_, _<_}
+use Prim.Native.Nat.{ℕ, zero, suc, _+_, _-_, _^_, _≤_, _<_}
 use native.Mathlib.Omega.{arith}
-use lib.ListN.{length, take, drop, replicate, length-drop}
+use lib.Dec.{eqb}
+use lib.ListN.{length, getD, take, drop, replicate, length-drop}
+use borrow.Author.Tests.{eqb-true}
+use mir.Syntax.{w64}
+use mir.Val.{Fits}
+use Rattle.model.proofs.BranchLaws.{and-left, and-right}
 use lib.Seq.{drop-drop, take-all}
 use Rattle.model.specs.Image as Image
 use Rattle.model.specs.Image.{image-after}
+use Rattle.host.specs.Record.{registers-of}
+use Rattle.model.specs.Registers.{machine}
 use Rattle.records.specs.declared.loading.Loading.{Loading}
 use Rattle.records.specs.declared.loading.Outcome.{Outcome}
 use Rattle.records.specs.declared.loading.Outcome.the-variants.{Refused, Waits, Next, Ready}
 use Rattle.image.specs.declared.load.LoadOutcome.the-variants as Load
 use Rattle.records.specs.View.{as-loading, Loading-within, Memory-within, Starts}
-use Rattle.records.specs.Record.{outcome-image, Goes, Outcome-within, Recorded-as}
-use Rattle.image.specs.Load.{Loaded-as}
-
--- l and m before the first record; `at` bytes are used, and k and its memory are what they left
-pub record Loaded-so-far (l : Loading) (m bs : List ℕ) (e : Bool) (at : ℕ) (k : Loading) (m-now : List ℕ) : Type 0 where
-  pub in-bytes : at ≤ length bs
-  pub same-length : length m-now ≡ length m
-  pub within : Loading-within k m-now
-  pub goes : Goes (as-loading l m) bs e (Next at) (as-loading k m-now)
+use Rattle.records.specs.Record.{outcome-image, Goes, Outcome-within, Kept, Recorded-as, Recorded-in-store}
+use Rattle.records.specs.declared.loading.Recorded.{Recorded}
+use Rattle.image.specs.Load.{Loaded-so-far, Word-if, Word-loaded, Words-loaded, Loaded-as}
 
 pub no-record-yet : (l : Loading) (m bs : List ℕ) (e : Bool) → Loading-within l m → Loaded-so-far l m bs e 0 l m
 unfolding Goes outcome-image
@@ -78,19 +80,149 @@ module _ {l : Loading} {m bs : List ℕ} {e : Bool} {at : ℕ} {k : Loading} {m-
           goes = λ rest f. both rest f ∙ rw q (ap (λ xs. image-after (as-loading j m-next) (xs ++ rest)) (drop-drop s at bs));
         }
 
+-- WD RECORDS: those so far, and one more
+some-of-two : (n s : ℕ) → ((n ≡ 0 → ⊥) → 6 ≤ n) → ((s ≡ 0 → ⊥) → 6 ≤ s) → (n + s ≡ 0 → ⊥) → 6 ≤ n + s
+some-of-two zero s f g h = let y = g (λ e. h (omega arith)) in omega arith
+some-of-two (suc n) s f g h = let y = f (λ e. omega arith) in omega arith
+
+pub no-word-yet : (l : Loading) (m bs : List ℕ) → Loading-within l m → Words-loaded l m bs 0 m
+no-word-yet l m bs h = record { so-far = λ e. no-record-yet l m bs e h; some-bytes = λ f. absurd (f refl); none-same = λ _. refl }
+
+module _ (l : Loading) (m bs : List ℕ) (n : ℕ) (m-now : List ℕ) (i : Words-loaded l m bs n m-now) where
+  pub words-in-bytes : n ≤ length bs
+  words-in-bytes = i .so-far true .in-bytes
+
+  pub words-within-store : Loading-within l m-now
+  words-within-store = i .so-far true .within
+
+  module _ (s : ℕ) (m-next : List ℕ) (r : Word-loaded l m-now (from n bs) s m-next) where
+    left-in-bytes : s ≤ length bs - n
+    left-in-bytes = subst (λ k. s ≤ k) (ap length (from-is-drop n bs) ∙ length-drop n bs) (r .in-bytes)
+
+    pub word-in-bytes : length bs < 2 ^ 64 → Fits w64 (n + s)
+    word-in-bytes f = record { fits = let h = left-in-bytes in let z = words-in-bytes in omega arith }
+
+    pub word-less : (s ≡ 0 → ⊥) → length bs - (n + s) < length bs - n
+    word-less f = let h = left-in-bytes in let z = words-in-bytes in omega arith
+
+    pub next-in-all : n + s ≤ length bs
+    next-in-all = let h = left-in-bytes in let z = words-in-bytes in omega arith
+
+    pub words-length : length m-next ≡ length m
+    words-length = r .same-length ∙ i .so-far true .same-length
+
+    pub one-word-more : Words-loaded l m bs (n + s) m-next
+    unfolding Goes outcome-image
+    one-word-more =
+        record {
+          some-bytes = λ f. some-of-two n s (i .some-bytes) (r .some-bytes) f;
+          none-same = λ f. r .none-same (let e : s ≡ 0 = omega arith in e) ∙ i .none-same (let e : n ≡ 0 = omega arith in e);
+          so-far =
+              λ e.
+              record {
+                in-bytes = let h = left-in-bytes in let z = words-in-bytes in omega arith;
+                same-length = words-length;
+                within = r .within;
+                goes =
+                    λ rest f. i .so-far e .goes rest f ∙ (rw (from-is-drop n bs) at (r .goes e)) rest f
+                    ∙ ap (λ xs. image-after (as-loading l m-next) (xs ++ rest)) (drop-drop s n bs);
+              };
+        }
+
+    pub words-end : s ≡ 0 → Words-loaded l m bs n m-next
+    words-end f = subst (λ k. Words-loaded l m bs k m-next) (let e : n + s ≡ n = omega arith in e) one-word-more
+
+pub ruleset words = (no-word-yet, words-within-store, word-in-bytes, word-less, next-in-all, words-length, one-word-more, words-end)
+
+-- a WD record in front
+pub word-marked : (bs : List ℕ) → eqb (getD bs 0 0) 87 && eqb (getD bs 1 0) 68 ≡ true → Image.mark-of bs ≡ some Image.WD
+unfolding Image.mark-of Image.marked
+word-marked bs e =
+    rw
+    (eqb-true (getD bs 0 0) 87 (and-left (eqb (getD bs 0 0) 87) (eqb (getD bs 1 0) 68) e), eqb-true (getD bs 1 0) 68 (and-right (eqb (getD bs 0 0) 87) (eqb (getD bs 1 0) 68) e))
+    refl
+
+pub word-in-front : (bs : List ℕ) (b : Bool) → 14 ≤ length bs → b ≡ (eqb (getD bs 0 0) 87 && eqb (getD bs 1 0) 68) → Word-if b bs
+word-in-front bs true h e = (word-marked bs (sym e), h)
+word-in-front bs false h e = tt
+
+module _ (r : Bool) (bs : List ℕ) (h : Word-if r bs) (e : r ≡ true) where
+  pub front-marked : Image.mark-of bs ≡ some Image.WD
+  front-marked = subst (λ b. Word-if b bs) e h .0
+
+  pub front-whole : 14 ≤ length bs
+  front-whole = subst (λ b. Word-if b bs) e h .1
+
+-- nothing was loaded
+module _ (l : Loading) (m bs : List ℕ) where
+  pub no-word : Loading-within l m → Word-loaded l m bs 0 m
+  unfolding Goes outcome-image
+  no-word h = record { in-bytes = omega arith; same-length = refl; within = h; goes = λ e rest _. refl; some-bytes = λ f. absurd (f refl); none-same = λ _. refl }
+
+  module _ (x : Recorded) (m-now : List ℕ) (r : Recorded-in-store l m bs x m-now) (h : Loading-within l m) where
+    kept : (o : Outcome) → x .outcome ≡ o → Kept o l (x .loading) m m-now
+    kept o q = subst (λ a. Kept a l (x .loading) m m-now) q (r .recorded true .kept)
+
+    nothing : m-now ≡ m → Word-loaded l m bs 0 m-now
+    nothing e = subst (Word-loaded l m bs 0) (sym e) (no-word h)
+
+    pub word-refused : (k : ℕ) → x .outcome ≡ Refused k → Word-loaded l m bs 0 m-now
+    word-refused k q = nothing (kept (Refused k) q .1)
+
+    pub word-waits : x .outcome ≡ Waits → Word-loaded l m bs 0 m-now
+    word-waits q = nothing (kept Waits q .1)
+
+    pub word-ready : (b : ℕ) → x .outcome ≡ Ready b → Word-loaded l m bs 0 m-now
+    word-ready b q = nothing (kept (Ready b) q .1)
+
+    pub word-next : (s : ℕ) → x .outcome ≡ Next s → Word-loaded l m bs s m-now
+    unfolding Outcome-within
+    word-next s q =
+        record {
+          in-bytes = (rw q at (r .recorded true .outcome-within)) .1;
+          some-bytes = λ _. (rw q at (r .recorded true .outcome-within)) .0;
+          none-same = λ f. absurd (let h = (rw q at (r .recorded true .outcome-within)) .0 in omega arith);
+          same-length = within-now .sized ∙ sym (h .sized);
+          within = within-now;
+          goes = λ e. subst (λ k. Goes (as-loading l m) bs e (Next s) (as-loading k m-now)) (r .loading-same) (subst (λ o. Goes (as-loading l m) bs e o (as-loading (x .loading) m-now)) q (r .recorded e .goes));
+        }
+      where
+        within-now : Loading-within l m-now
+        within-now = subst (λ k. Loading-within k m-now) (r .loading-same) (r .recorded true .within)
+
+pub ruleset fronts = (word-in-front, front-marked, front-whole, no-word, word-refused, word-waits, word-ready, word-next)
+
+-- as a record of all their bytes, or else the next record
+module _ (l : Loading) (m bs : List ℕ) (e : Bool) (n : ℕ) (m-now : List ℕ) (w : Words-loaded l m bs n m-now) where
+  pub words-as-one : (n ≡ 0 → ⊥) → Recorded-as l m bs e (record { loading = l; outcome = Next n }) m-now
+  unfolding Outcome-within
+  words-as-one f =
+      record { within = w .so-far e .within; goes = w .so-far e .goes; outcome-within = (w .some-bytes f, w .so-far e .in-bytes); kept = tt }
+
+  pub no-words : n ≡ 0 → (x : Recorded) (m-next : List ℕ) → Recorded-as l m-now bs e x m-next → Recorded-as l m bs e x m-next
+  no-words f x m-next = subst (λ v. Recorded-as l v bs e x m-next) (w .none-same f)
+
+pub ruleset nexts = (words-as-one, no-words)
+
 -- a whole image, from nothing
-pub image-loaded : (l : Image.Loading) (bs : List ℕ) (o : Outcome) (k : Image.Loading) → l ≡ Image.nothing-loaded → Goes l bs true o k → Image.image bs ≡ outcome-image o k bs []
+pub image-loaded : (l : Image.Loading) (bs : List ℕ) (o : Outcome) (k : Image.Loading) → l ≡ Image.nothing-loaded Image.today → Goes l bs true o k → Image.image bs ≡ outcome-image o k bs []
 unfolding Goes Image.image
 image-loaded l bs o k e h = sym (ap₂ image-after e (append-nil bs)) ∙ h [] (λ _. refl)
 
--- 8,192 zeros may be lent before the first record
-pub may-load : (l : Loading) (m : List ℕ) → Starts l → m ≡ replicate 8192 0 → Loading-within l m
+-- a store of zeros may be lent before the first record
+pub may-load : (v : Bool) (l : Loading) (m : List ℕ) → Starts v l → m ≡ replicate 8320 0 → Loading-within l m
 unfolding Starts
-may-load l m s z = s m z .0
+may-load v l m s z = s m z .0
 
 -- once ME has come, the image's memory is the front of what is lent
 pub words-within : (l : Loading) (m : List ℕ) → Loading-within l m → l .«has_memory» ≡ true → l .words ≤ length m
 unfolding Memory-within
 words-within l m w h = let q = rw h at w .memory-within in omega (arith, w .sized)
+
+-- once ME and ST have come, what is loaded is a machine
+pub loaded-machine : (l : Loading) (m : List ℕ) → l .«has_memory» ≡ true → l .«has_registers» ≡ true →
+    Image.machine-of (as-loading l m) ≡ record { registers = registers-of (l .registers); memory = take (l .words) m }
+unfolding Image.machine-of Image.memory-of Image.or-else as-loading machine
+loaded-machine l m h g = rw (h, g) refl
 
 pub ruleset loads = (no-record-yet, last-refused, last-waits, last-ready, one-more)

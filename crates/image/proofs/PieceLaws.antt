@@ -1,12 +1,14 @@
--- Bytes moved to a buffer's front, and an image loaded in pieces. Assumes nothing.
+-- An image loaded in pieces. Assumes nothing.
 use mathlib.Core.Path.{_≡_, refl, sym, _∙_, ap, ap₂, subst}
 use mathlib.Core.Bool.{Bool}
-use mathlib.Core.List.{List, [], _∷_, _++_}
-use Prim.Native.Nat.{ℕ, zero, suc, _+_, _-_, _≤_, _<_}
+use mathlib.Core.List.{List, _++_}
+use Prim.Native.Nat.{ℕ, _+_, _-_, _≤_, _<_}
 use native.Mathlib.Omega.{arith}
-use lib.ListN.{length, take, drop, set, getD}
-use lib.Seq.{take-suc, take-suc-set, drop-set-lt, drop-drop, drop-append-le, getD-drop, length-take-le}
+use lib.ListN.{length, take, drop}
+use lib.Seq.{length-take-le}
 use Rattle.model.specs.Image as Image
+use Rattle.buffers.specs.Move.{moved-down}
+use Rattle.buffers.proofs.MoveLaws.{take-moved, part-of-front}
 use Rattle.records.specs.declared.loading.Loading.{Loading}
 use Rattle.image.specs.declared.load.LoadOutcome.{LoadOutcome}
 use Rattle.image.specs.declared.load.LoadOutcome.the-variants.{Refused, More, Ready}
@@ -15,45 +17,7 @@ use Rattle.records.specs.View.{as-loading, Loading-within}
 use Rattle.records.specs.Record.{Goes, outcome-image}
 use Rattle.image.specs.Load.{as-outcome, Load-outcome-within, Loaded-as}
 use Rattle.image.proofs.LoadLaws.{words-within}
-use Rattle.image.specs.Piece.{Kept-at-front, piece-image, Piece-goes, Piece-within, Piece-loaded}
-
--- BYTES MOVED: those before i stand at the front, and from i on nothing has changed
-module _ (t₀ : List ℕ) (f : ℕ) where
-  pub none-moved : take (f - f) t₀ ≡ drop f (take f t₀)
-  none-moved =
-      ap (λ n. take n t₀) (let e : f - f ≡ 0 = omega arith in e) ∙ sym (nothing-after f t₀)
-    where
-      nothing-after : (n : ℕ) (l : List ℕ) → drop n (take n l) ≡ []
-      nothing-after zero l = refl
-      nothing-after (suc n) [] = refl
-      nothing-after (suc n) (x ∷ l) = nothing-after n l
-
-  module _ (t : List ℕ) (i : ℕ) (from : f ≤ i) (size : length t ≡ length t₀) (front : take (i - f) t ≡ drop f (take i t₀)) (rest : drop i t ≡ drop i t₀) where
-    module _ (end : ℕ) (more : i < end) (room : end ≤ length t₀) where
-      read-same : getD t i 0 ≡ getD t₀ i 0
-      read-same =
-          ap (λ n. getD t n 0) (let e : i ≡ i + 0 = omega arith in e) ∙ sym (getD-drop i t 0 0) ∙ ap (λ l. getD l 0 0) rest ∙ getD-drop i t₀ 0 0
-          ∙ ap (λ n. getD t₀ n 0) (let e : i + 0 ≡ i = omega arith in e)
-
-      pub moved-front : take (i + 1 - f) (set t (i - f) (getD t i 0)) ≡ drop f (take (i + 1) t₀)
-      moved-front =
-          ap (λ n. take n (set t (i - f) (getD t i 0))) (let e : i + 1 - f ≡ suc (i - f) = omega arith in e)
-          ∙ take-suc-set t (i - f) (getD t i 0) (omega arith)
-          ∙ ap₂ (λ l b. l ++ (b ∷ [])) front read-same
-          ∙ sym (drop-append-le f (take i t₀) (getD t₀ i 0 ∷ []) (omega (arith, length-take-le i t₀ (omega arith))))
-          ∙ ap (drop f) (sym (take-suc t₀ i 0 (omega arith)))
-          ∙ ap (λ n. drop f (take n t₀)) (let e : suc i ≡ i + 1 = omega arith in e)
-
-      pub moved-rest : drop (i + 1) (set t (i - f) (getD t i 0)) ≡ drop (i + 1) t₀
-      moved-rest = drop-set-lt (i + 1) t (i - f) (getD t i 0) (omega arith) ∙ sym (drop-drop 1 i t) ∙ ap (drop 1) rest ∙ drop-drop 1 i t₀
-
-    pub moved : (e : ℕ) → i ≤ e → e ≤ i → Kept-at-front f e t₀ t
-    moved e h g = record { bytes-same = ap (λ n. take (n - f) t) same ∙ front ∙ ap (λ n. drop f (take n t₀)) (sym same); size-same = size }
-      where
-        same : e ≡ i
-        same = omega arith
-
-pub ruleset moves = (none-moved, moved-front, moved-rest, moved)
+use Rattle.image.specs.Piece.{piece-image, Piece-goes, Piece-within, Piece-loaded}
 
 pub part-size : (n : ℕ) (t : List ℕ) → n ≤ length t → n ≡ length (take n t)
 part-size n t h = sym (length-take-le n t h)
@@ -65,6 +29,9 @@ module _ (l : Loading) (m t : List ℕ) (n : ℕ) (e : Bool) (x : Loaded) (m-now
 
   pub used-within : (used : ℕ) → x .outcome ≡ More used → used ≤ n
   used-within used o = let q = rw o at w .outcome-within in omega (arith, size)
+
+  pub kept-in-buffer : (used : ℕ) → x .outcome ≡ More used → used + (n - used) ≤ length t
+  kept-in-buffer used o = let y = used-within used o in omega arith
 
   settled : (a : LoadOutcome) (u : List ℕ) → x .outcome ≡ a →
       ((rest : List ℕ) → outcome-image (as-outcome a) (as-loading (x .loading) m-now) (take n t) rest ≡ piece-image a (as-loading (x .loading) m-now) u rest) →
@@ -88,7 +55,7 @@ module _ (l : Loading) (m t : List ℕ) (n : ℕ) (e : Bool) (x : Loaded) (m-now
   unfolding outcome-image piece-image
   piece-ready b u o = settled (Ready b) u o (λ rest. refl) (λ q. q)
 
-  pub piece-kept : (used : ℕ) (u : List ℕ) → x .outcome ≡ More used → Kept-at-front used n t u →
+  pub piece-kept : (used : ℕ) (u : List ℕ) → x .outcome ≡ More used → u ≡ moved-down used 0 (n - used) t →
       Piece-loaded l m (take n t) e (record { loading = x .loading; outcome = More (n - used) }) m-now u
   unfolding Goes Piece-goes outcome-image piece-image
   piece-kept used u o k =
@@ -96,14 +63,20 @@ module _ (l : Loading) (m t : List ℕ) (n : ℕ) (e : Bool) (x : Loaded) (m-now
         within = w .within;
         goes =
             λ rest z. w .goes rest z ∙ ap (λ b. outcome-image (as-outcome b) (as-loading (x .loading) m-now) (take n t) rest) o
-            ∙ ap (λ bs. Image.image-after (as-loading (x .loading) m-now) (bs ++ rest)) (sym (k .bytes-same));
+            ∙ ap (λ bs. Image.image-after (as-loading (x .loading) m-now) (bs ++ rest)) (sym kept);
         outcome-within = (rest .0, let q = rest .2 in omega (arith, size));
       }
     where
       rest : Load-outcome-within (take n t) e (x .loading) (More used)
       rest = subst (Load-outcome-within (take n t) e (x .loading)) o (w .outcome-within)
 
-pub ruleset pieces = (part-size, used-within, piece-refused, piece-ready, piece-kept)
+      kept : take (n - used) u ≡ drop used (take n t)
+      kept =
+          let y = used-within used o in
+          ap₂ take (let q : n - used ≡ 0 + (n - used) = omega arith in q) k ∙ take-moved t used 0 (n - used) (omega arith) (omega arith) ∙ part-of-front used (n - used) t (omega arith)
+          ∙ ap (λ l. drop used (take l t)) (let q : used + (n - used) ≡ n = omega arith in q)
+
+pub ruleset pieces = (part-size, used-within, kept-in-buffer, piece-refused, piece-ready, piece-kept)
 
 -- WHAT A READER OF PIECES NEEDS of one
 module _ (l : Loading) (m piece : List ℕ) (e : Bool) (x : Loaded) (m-now u : List ℕ) (w : Piece-loaded l m piece e x m-now u) where

@@ -2,8 +2,10 @@
 use mathlib.Core.Path.{_≡_}
 use mathlib.Core.Bool.{Bool, true, false}
 use mathlib.Core.List.{List}
+use mathlib.Core.Option.{some}
 use Prim.Native.Nat.{ℕ, _-_, _≤_, _<_}
 use lib.ListN.{length}
+use Rattle.model.specs.Image as Image
 use Rattle.records.specs.declared.loading.Loading.{Loading}
 use Rattle.records.specs.declared.loading.Outcome.{Outcome}
 use Rattle.records.specs.declared.loading.Outcome.the-variants as Outcome
@@ -12,6 +14,33 @@ use Rattle.image.specs.declared.load.LoadOutcome.the-variants.{Refused, 
 use Rattle.image.specs.declared.load.Loaded.{Loaded}
 use Rattle.records.specs.View.{as-loading, Loading-within}
 use Rattle.records.specs.Record.{Goes}
+
+-- l and m before the first record; `at` bytes are used, and k and its store are what they left
+pub record Loaded-so-far (l : Loading) (m bs : List ℕ) (e : Bool) (at : ℕ) (k : Loading) (m-now : List ℕ) : Type 0 where
+  pub in-bytes : at ≤ length bs
+  pub same-length : length m-now ≡ length m
+  pub within : Loading-within k m-now
+  pub goes : Goes (as-loading l m) bs e (Outcome.Next at) (as-loading k m-now)
+
+-- a yes says that a whole WD record stands in front
+abbrev pub Word-if : Bool → (bytes : List ℕ) → Type 0
+Word-if true bs = (Image.mark-of bs ≡ some Image.WD) × (14 ≤ length bs)
+Word-if false bs = Unit {0}
+
+-- one WD record in front, or nothing changed
+pub record Word-loaded (l : Loading) (m bs : List ℕ) (n : ℕ) (m-now : List ℕ) : Type 0 where
+  pub in-bytes : n ≤ length bs
+  pub same-length : length m-now ≡ length m
+  pub within : Loading-within l m-now
+  pub goes : (e : Bool) → Goes (as-loading l m) bs e (Outcome.Next n) (as-loading l m-now)
+  pub some-bytes : (n ≡ 0 → ⊥) → 6 ≤ n
+  pub none-same : n ≡ 0 → m-now ≡ m
+
+-- WD records alone, whatever comes after them
+pub record Words-loaded (l : Loading) (m bs : List ℕ) (n : ℕ) (m-now : List ℕ) : Type 0 where
+  pub so-far : (e : Bool) → Loaded-so-far l m bs e n l m-now
+  pub some-bytes : (n ≡ 0 → ⊥) → 6 ≤ n
+  pub none-same : n ≡ 0 → m-now ≡ m
 
 -- records one after another are as one of all their bytes
 abbrev pub as-outcome : LoadOutcome → Outcome

@@ -2,19 +2,14 @@
 use mathlib.Core.Path.{_≡_}
 use mathlib.Core.Bool.{Bool, true, false}
 use mathlib.Core.List.{List, [], _++_}
-use Prim.Native.Nat.{ℕ, _-_, _≤_, _<_}
-use lib.ListN.{length, take, drop}
+use Prim.Native.Nat.{ℕ, _≤_, _<_}
+use lib.ListN.{take}
 use Rattle.model.specs.Image as Image
 use Rattle.records.specs.declared.loading.Loading.{Loading}
 use Rattle.image.specs.declared.load.LoadOutcome.{LoadOutcome}
 use Rattle.image.specs.declared.load.LoadOutcome.the-variants.{Refused, More, Ready}
 use Rattle.image.specs.declared.load.Loaded.{Loaded}
 use Rattle.records.specs.View.{as-loading, Loading-within}
-
--- the bytes from a place up to another stand at the front
-pub record Kept-at-front (from end : ℕ) (buffer buffer-now : List ℕ) : Type 0 where
-  pub bytes-same : take (end - from) buffer-now ≡ drop from (take end buffer)
-  pub size-same : length buffer-now ≡ length buffer
 
 -- the image, by an outcome, what is loaded after it, the buffer and the bytes that come after what it keeps
 unfoldable pub piece-image : LoadOutcome → Image.Loading → (buffer rest : List ℕ) → Image.Image

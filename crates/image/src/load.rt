@@ -1,6 +1,7 @@
 // Records one after another, until one is refused, the bytes don't hold a whole one, or RN has come.
 ghost use Rattle.records.specs.View.{Loading-within};
 ghost use Rattle.image.specs.Load.{Loaded-as};
+use crate::words::load_next;
 use records::loading::Loading;
 use records::loading::Outcome;
 use records::loading::Recorded;
@@ -20,9 +21,9 @@ pub struct Loaded {
 }
 
 // `ended`: no bytes come after these.
-pub fn load(loading: Loading, memory: &mut [u64], bytes: &[u8], ended: bool) -> Loaded
-    requires { ⌜ Loading-within loading (now memory) ⌝ }
-    ensures { λ x. ⌜ Loaded-as loading (now (memory .entry)) (now (bytes .entry)) ended x (now (memory .exit)) ⌝ }
+pub fn load(loading: Loading, store: &mut [u64], bytes: &[u8], ended: bool) -> Loaded
+    requires { ⌜ Loading-within loading (now store) ⌝ }
+    ensures { λ x. ⌜ Loaded-as loading (now (store .entry)) (now (bytes .entry)) ended x (now (store .exit)) ⌝ }
 {
     let mut x = Recorded {
         loading,
@@ -30,7 +31,7 @@ pub fn load(loading: Loading, memory: &mut [u64], bytes: &[u8], ended: bool) -> 
     };
     let mut at = 0;
     loop {
-        x = records::record::load_record(x.loading, memory, &bytes[at..], ended);
+        x = load_next(x.loading, store, &bytes[at..], ended);
         let outcome = x.outcome;
         match outcome {
             Outcome::Refused(n) => {

@@ -1,6 +1,7 @@
-// The C library: a run and a step over a register record and a memory that the host lends, and an image run whole.
+// The C library: a run and a step over a register record and a memory that the host lends, an image run whole, and a stored one converted.
 ghost use mathlib.Core.Path.{_≡_};
 ghost use Rattle.model.specs.Bench as Bench;
+ghost use Rattle.model.specs.Convert.{convert-call};
 ghost use Rattle.kuzhlemor.specs.Entry.{together, Run-says, Step-says};
 use host::record::DescriptorBase;
 use host::record::Pointer;
@@ -94,9 +95,13 @@ pub extern "C" fn kuzhlemor_step(registers: &mut Registers, memory: &mut [u64]) 
 pub extern "C" fn kuzhlemor_bench(image: &[u8], text: &mut [u8]) -> i64
     ensures { λ r. ⌜ (r ≡ Bench.bench (now (image .entry)) (now (text .entry)) .answer) × (now (text .exit) ≡ Bench.bench (now (image .entry)) (now (text .entry)) .buffer) ⌝ }
 {
-    let x = dosing::bench(image, text);
-    if x.number != 0 {
-        return -(x.number as i64);
-    }
-    x.length as i64
+    calls::signed(dosing::bench(image, text))
+}
+
+// A stored image, converted where it stands: the question's number negated, or the new image's length.
+#[no_mangle]
+pub extern "C" fn kuzhlemor_convert(image: &mut [u8]) -> i64
+    ensures { λ r. ⌜ (r ≡ convert-call (now (image .entry)) .answer) × (now (image .exit) ≡ convert-call (now (image .entry)) .buffer) ⌝ }
+{
+    calls::signed(conversion::convert(image))
 }

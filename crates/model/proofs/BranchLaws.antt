@@ -47,3 +47,11 @@ or-right false b p = p
 pub not-or-false : (a b : Bool) → (not a || b) ≡ true → b ≡ false → a ≡ false
 not-or-false true b e f = sym e ∙ f
 not-or-false false b e f = refl
+
+pub or-rest : (a b : Bool) → a ≡ false → (a || b) ≡ true → b ≡ true
+or-rest true b e h = absurd (false≢true (sym e))
+or-rest false b e h = h
+
+pub or-none : (a b : Bool) → (a || b) ≡ false → (a ≡ false) × (b ≡ false)
+or-none true b e = absurd (false≢true (sym e))
+or-none false b e = (refl, e)

@@ -1,7 +1,7 @@
 -- The thirteen cases and the readings of 01 hold of the definitions, by computation. Assumes nothing.
 use mathlib.Core.Path.{refl}
 use Rattle.model.specs.Cases.{left-by, Holds, about-to-do, about-to, gated, through-pointer, returning, case-12-registers, case-12-words, case-12, pointers-up, through-pointers, case, thirteen, All-hold, Cases-hold}
-use Rattle.model.specs.Readings.{doing, with-descriptors, started, ended, Readings}
+use Rattle.model.specs.Readings.{doing, with-descriptors, started, ended, stored-one, Readings}
 use Rattle.model.proofs.Computing.{by-computation}
 
 pub thirteen-cases-hold : Cases-hold thirteen
@@ -45,7 +45,7 @@ thirteen-cases-hold = (
 )
 
 pub readings-hold : Readings
-unfolding by-computation left-by Holds about-to-do about-to case-12-registers doing with-descriptors started ended
+unfolding by-computation left-by Holds about-to-do about-to case-12-registers doing with-descriptors started ended stored-one
 readings-hold =
     record {
       empty-file-is-42 = refl;
@@ -58,7 +58,13 @@ readings-hold =
       RN-before-ST-is-42 = refl;
       WD-before-ME-is-42 = refl;
       ME-above-8192-is-43 = refl;
-      later-WD-wins = refl;
+      second-WD-is-51 = refl;
+      equal-WD-is-51 = refl;
+      second-WD-outside-is-44 = refl;
+      second-WD-comes-before-4 = refl;
+      last-WD-is-kept = refl;
+      stored-44-is-refused = refl;
+      stored-4-is-refused = refl;
       empty-descriptor-segment-at-the-end-passes-4 = refl;
       empty-descriptor-segment-past-the-end-is-4 = refl;
       LDBR-of-the-end-passes-34 = refl;

@@ -1,5 +1,5 @@
--- An image is its records one after another. Assumes nothing.
-use mathlib.Core.Path.{_≡_, refl, _∙_, ap, ap₂}
+-- An image is its records one after another, and then 1 to 4. Assumes nothing.
+use mathlib.Core.Path.{_≡_, refl, sym, _∙_, ap, ap₂}
 use mathlib.Core.Bool.{true}
 use mathlib.Core.List.{List, [], _∷_, _++_}
 use mathlib.Core.Option.{Option, none, some}
@@ -9,13 +9,15 @@ use lib.Dec.{leb}
 use lib.ListN.{length, take, drop, length-append, length-drop, List·getD-append}
 use lib.Seq.{take-append-le, drop-append-le, drop-at}
 use borrow.Author.Tests.{leb-true, le-leb}
+use Rattle.model.specs.Registers.{Machine}
+use Rattle.model.specs.Questions.{start-questions}
 use Rattle.model.specs.Run.{unless-refused}
-use Rattle.model.specs.Image.{Mark, ME, ST, WD, RN, marked, mark-of, record-size, big-endian, number-at, pointer-at, pointers-at, registers-at, Loading, memory-allowed, address-allowed, record-questions, with-record, Image, refused-image, record-on, whole-record-on, marked-on, bytes-on, image-from, image-after}
+use Rattle.model.specs.Image.{Mark, ME, ST, WD, RN, marked, mark-of, record-size, big-endian, number-at, pointer-at, pointers-at, registers-at, Loading, memory-allowed, address-allowed, address-new, record-questions, with-record, Image, refused-image, loaded, checked, record-on, whole-record-on, marked-on, bytes-on, image-from, image-after}
 use Rattle.model.specs.Records.{Image-is-records, Image-needs-rn}
 use Rattle.model.proofs.BranchLaws.{cond-rel}
 
 -- THE RECORDS LEFT suffice: what follows a record is shorter
-record-has-a-mark : (k : Mark) → 2 ≤ record-size k
+pub record-has-a-mark : (k : Mark) → 2 ≤ record-size k
 unfolding record-size
 record-has-a-mark ME = omega arith
 record-has-a-mark ST = omega arith
@@ -75,7 +77,7 @@ module _ (one rest : List ℕ) where
       (ap (take n) (drop-append-le a one rest (omega arith))
       ∙ take-append-le n (drop a one) rest (let z = length-drop a one in omega arith))
 
-  mark-of-front : 2 ≤ length one → mark-of (one ++ rest) ≡ mark-of one
+  pub mark-of-front : 2 ≤ length one → mark-of (one ++ rest) ≡ mark-of one
   unfolding mark-of marked
   mark-of-front h = rw (List·getD-append one rest 0 0 (omega arith), List·getD-append one rest 0 1 (omega arith))
 
@@ -103,7 +105,7 @@ module _ (one rest : List ℕ) where
   record-on-front RN l f h = rw (number-at-front 2 4 (omega arith))
 
   questions-front : (k : Mark) (l : Loading) (n : ℕ) → record-size k ≤ length one → record-questions k l n (one ++ rest) ≡ record-questions k l n one
-  unfolding record-questions memory-allowed address-allowed record-size
+  unfolding record-questions memory-allowed address-allowed address-new record-size
   questions-front ME l n h = rw (number-at-front 2 4 (omega arith))
   questions-front ST l n h = refl
   questions-front WD l n h = rw (number-at-front 2 4 (omega arith))
@@ -134,3 +136,17 @@ image-is-records k l one rest is-marked sized =
     ∙ whole-is-marked k l (one ++ rest) f (omega arith)
     ∙ ap (λ z. whole-record-on k l (length z) (one ++ rest) (λ j. image-after j z)) (drop-at one rest (record-size k) sized)
     ∙ whole-record-front one rest k l (length rest) (λ j. image-after j rest) (omega arith)
+
+-- 1 TO 4, once RN has come
+module _ (m : Machine) (b n : ℕ) (e : n ≡ start-questions m) where
+  pub checked-refused : (n ≡ 0 → ⊥) → checked m b ≡ refused-image n
+  unfolding checked unless-refused
+  checked-refused h = ap (λ a. unless-refused a refused-image (loaded m b)) (sym e) ∙ by-number n h
+    where
+      by-number : (k : ℕ) → (k ≡ 0 → ⊥) → unless-refused k refused-image (loaded m b) ≡ refused-image k
+      by-number zero h = absurd (h refl)
+      by-number (suc k) h = refl
+
+  pub checked-passed : n ≡ 0 → checked m b ≡ loaded m b
+  unfolding checked unless-refused
+  checked-passed z = ap (λ a. unless-refused a refused-image (loaded m b)) (sym e ∙ z)

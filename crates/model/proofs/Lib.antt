@@ -15,6 +15,12 @@ pub mod RunLaws
 pub mod EndsLaws
 pub mod CountLaws
 pub mod ImageLaws
+pub mod CutLaws
+pub mod LastLaws
+pub mod FrontLaws
+pub mod OverwrittenLaws
+pub mod OnceLaws
+pub mod ConvertLaws
 pub mod ListingLaws
 pub mod Computing
 pub mod CasesHold

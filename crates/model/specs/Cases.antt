@@ -13,6 +13,7 @@ use Rattle.model.specs.Opcodes.{Opcode, LDA, STA, EAP, CALL, RETURN}
 use Rattle.model.specs.Program.{Outcome, faults, completes, halts}
 use Rattle.model.specs.Step.{step}
 use Rattle.model.specs.Listing.{ascii, listing, image-text}
+use Rattle.model.specs.Convert.{convert}
 use Rattle.model.specs.Notation.{pointer, segment, literal, by-pr, indirect-by-pr, indirect-word, storing, image-of}
 
 -- WHAT A CASE CAN CLAIM
@@ -26,9 +27,10 @@ pub data Claim : Type 0 where
   pr-becomes : Machine → (number : ℕ) → Pointer → Claim
   a-becomes : Machine → ℕ → Claim
   word-becomes : Machine → (address value : ℕ) → Claim
-  -- the run's listing, and the text of an image
+  -- the run's listing, and the text of an image; a stored image is converted to this one, or gives this text
   run-lists : (budget : ℕ) → Machine → String → Claim
   image-prints : (bytes : List ℕ) → String → Claim
+  image-converts : (bytes new : List ℕ) → Claim
 
 unfoldable pub left-by : {A : Type 0} → (Machine → A) → Outcome → Option A
 left-by f (faults n t) = none
@@ -44,6 +46,7 @@ Holds (a-becomes m v) = left-by (λ k. k .registers .a) (step m) ≡ some v
 Holds (word-becomes m x v) = left-by (λ k. getD (k .memory) x 0) (step m) ≡ some v
 Holds (run-lists b m s) = listing b m ≡ ascii s
 Holds (image-prints bs s) = image-text bs ≡ ascii s
+Holds (image-converts bs new) = convert bs ≡ new
 
 -- MACHINES WITH ONE INSTRUCTION to do: A is 7, and the instruction is word 0 of segment 0, which the given ring executes; PR1 is
 -- the pointer handed in, and the other PRs are in IPR's ring. Segment 1's words begin at address 3

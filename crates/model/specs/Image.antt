@@ -1,5 +1,6 @@
--- 01, 'Images and the listing': an image's records, questions 41 to 44 of each in order, then 1 to 4. Assumes nothing: these are definitions.
-use mathlib.Core.Bool.{Bool, true, false, _&&_, not, cond}
+-- 01, 'Images and the listing', with 02's L1: an image's records, questions 41 to 44 and 51 of each in order, then 1 to 4.
+-- Assumes nothing: these are definitions.
+use mathlib.Core.Bool.{Bool, true, false, _&&_, _||_, not, cond}
 use mathlib.Core.List.{List, [], _∷_}
 use mathlib.Core.Option.{Option, none, some}
 use Prim.Native.Nat.{ℕ, zero, suc, _+_, _*_}
@@ -56,13 +57,20 @@ registers-at bs =
       prs = pointers-at 8 21 bs;
     }
 
--- WHAT THE RECORDS SO FAR GAVE: memory once ME has come, registers once ST has
+-- THE RULES by which records are read: 01's, for which stored images were written (of two WD for one address the later wins), and today's
+pub data Rules : Type 0 where
+  stored : Rules
+  today : Rules
+
+-- WHAT THE RECORDS SO FAR GAVE: memory once ME has come, registers once ST has; today also which words a WD has written
 pub record Loading : Type 0 where
+  pub rules : Rules
   pub memory : Option (List ℕ)
+  pub written : (address : ℕ) → Bool
   pub registers : Option Registers
 
-abbrev pub nothing-loaded : Loading
-nothing-loaded = record { memory = none; registers = none }
+abbrev pub nothing-loaded : Rules → Loading
+nothing-loaded v = record { rules = v; memory = none; written = λ _. false; registers = none }
 
 unfoldable pub has : {A : Type 0} → Option A → Bool
 has none = false
@@ -102,14 +110,34 @@ address-allowed ST l bs = true
 address-allowed WD l bs = ltb (number-at 2 4 bs) (length (memory-of l))
 address-allowed RN l bs = true
 
--- ONE RECORD, at the front of the bytes. 42 to 44 of a whole one, with so many bytes after it
+-- 51: has no earlier WD the address? Asked today, and not of stored images
+unfoldable pub unless-written : Rules → (is-written : Bool) → Bool
+unless-written stored w = true
+unless-written today w = not w
+
+unfoldable pub address-new : Mark → Loading → List ℕ → Bool
+address-new ME l bs = true
+address-new ST l bs = true
+address-new WD l bs = unless-written (l .rules) (l .written (number-at 2 4 bs))
+address-new RN l bs = true
+
+-- ONE RECORD, at the front of the bytes. 42 to 44 and 51 of a whole one, with so many bytes after it
 unfoldable pub record-questions : Mark → Loading → (bytes-after : ℕ) → List ℕ → ℕ
-record-questions k l n bs = ask (in-order k l n) 42 (ask (memory-allowed k bs) 43 (ask (address-allowed k l bs) 44 yes-to-all))
+record-questions k l n bs =
+    ask (in-order k l n) 42 (ask (memory-allowed k bs) 43 (ask (address-allowed k l bs) 44 (ask (address-new k l bs) 51 yes-to-all)))
+
+unfoldable pub with-written : Rules → (address : ℕ) → (ℕ → Bool) → ℕ → Bool
+with-written stored a w = w
+with-written today a w = λ b. eqb a b || w b
+
+unfoldable pub with-word : (address word : ℕ) → Loading → Loading
+with-word a v l =
+    record { rules = l .rules; memory = some (set (memory-of l) a v); written = with-written (l .rules) a (l .written); registers = l .registers }
 
 unfoldable pub with-record : Mark → Loading → List ℕ → Loading
-with-record ME l bs = record { memory = some (replicate (number-at 2 4 bs) 0); registers = l .registers }
-with-record ST l bs = record { memory = l .memory; registers = some (registers-at bs) }
-with-record WD l bs = record { memory = some (set (memory-of l) (number-at 2 4 bs) (number-at 6 8 bs)); registers = l .registers }
+with-record ME l bs = record { rules = l .rules; memory = some (replicate (number-at 2 4 bs) 0); written = l .written; registers = l .registers }
+with-record ST l bs = record { rules = l .rules; memory = l .memory; written = l .written; registers = some (registers-at bs) }
+with-record WD l bs = with-word (number-at 2 4 bs) (number-at 6 8 bs) l
 with-record RN l bs = l
 
 pub data Image : Type 0 where
@@ -152,4 +180,8 @@ unfoldable pub image-after : Loading → List ℕ → Image
 image-after l bs = image-from (suc (length bs)) l bs
 
 unfoldable pub image : List ℕ → Image
-image bs = image-after nothing-loaded bs
+image bs = image-after (nothing-loaded today) bs
+
+-- what a stored image means
+unfoldable pub stored-image : List ℕ → Image
+stored-image bs = image-after (nothing-loaded stored) bs

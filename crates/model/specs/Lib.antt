@@ -14,6 +14,8 @@ pub mod Image
 pub mod Listing
 pub mod Records
 pub mod Bench
+pub mod Convert
+pub mod Converted
 pub mod Lent
 pub mod Notation
 pub mod Cases

@@ -1,11 +1,11 @@
--- How 01 is read where it leaves a choice (docs/DECISIONS.md), each reading as a fact of the definitions. Assumes nothing: these are definitions.
+-- How 01 and 02 are read where they leave a choice (docs/DECISIONS.md), each reading as a fact of the definitions. Assumes nothing: these are definitions.
 use mathlib.Core.List.{List, [], _∷_, _++_}
 use Prim.Native.Nat.{ℕ, _+_}
 use Rattle.model.specs.Registers.{Registers, Machine}
 use Rattle.model.specs.Opcodes.{AOS, EAP, TRA, TZE, CALL, LDBR, HLT}
 use Rattle.model.specs.Listing.{ascii}
 use Rattle.model.specs.Notation.{pointer, segment, by-ipr, by-pr, indirect-by-pr, bytes, ST-record, WD-records, image-of}
-use Rattle.model.specs.Cases.{step-faults, ipr-becomes, pr-becomes, word-becomes, run-lists, image-prints, Holds, about-to-do, about-to, case-12-registers}
+use Rattle.model.specs.Cases.{step-faults, ipr-becomes, pr-becomes, word-becomes, run-lists, image-prints, image-converts, Holds, about-to-do, about-to, case-12-registers}
 
 -- the instruction and one word in segment 1
 unfoldable pub doing : (instruction ring segment-1 word : ℕ) → Machine
@@ -22,6 +22,10 @@ started = ascii "ME" ++ bytes 4 64 ++ ST-record case-12-registers
 unfoldable pub ended : List ℕ
 ended = ascii "RN" ++ bytes 4 0
 
+-- WD records before ST and after it
+unfoldable pub stored-one : (before after : List (ℕ × ℕ)) → List ℕ
+stored-one xs ys = ascii "ME" ++ bytes 4 64 ++ WD-records xs ++ ST-record case-12-registers ++ WD-records ys ++ ended
+
 pub record Readings : Type 0 where
   -- IMAGES are judged record by record: a bad record's number comes before anything that a later record would get
   pub empty-file-is-42 : Holds (image-prints [] "refused 42\n")
@@ -34,8 +38,16 @@ pub record Readings : Type 0 where
   pub RN-before-ST-is-42 : Holds (image-prints (ascii "ME" ++ bytes 4 64 ++ ended) "refused 42\n")
   pub WD-before-ME-is-42 : Holds (image-prints (WD-records ((0, 0) ∷ []) ++ started ++ ended) "refused 42\n")
   pub ME-above-8192-is-43 : Holds (image-prints (ascii "ME" ++ bytes 4 8193) "refused 43\n")
-  pub later-WD-wins :
-      Holds (image-prints (started ++ WD-records ((4, segment 16 8 4 4 4 "R E V" 0) ∷ (4, segment 16 8 4 4 4 "R V" 0) ∷ []) ++ (ascii "RN" ++ bytes 4 1)) "fault 21 0 4 4 0\n")
+  -- 51: A SECOND WD for an address is refused, next to the first or not, its word equal or not; 44 comes before it, and 1 to 4 after it
+  pub second-WD-is-51 : Holds (image-prints (started ++ WD-records ((4, 1) ∷ (5, 0) ∷ (4, 2) ∷ []) ++ ended) "refused 51\n")
+  pub equal-WD-is-51 : Holds (image-prints (started ++ WD-records ((4, 1) ∷ (4, 1) ∷ []) ++ ended) "refused 51\n")
+  pub second-WD-outside-is-44 : Holds (image-prints (started ++ WD-records ((64, 0) ∷ (64, 0) ∷ []) ++ ended) "refused 44\n")
+  pub second-WD-comes-before-4 :
+      Holds (image-prints (ascii "ME" ++ bytes 4 2 ++ ST-record case-12-registers ++ WD-records ((1, 0) ∷ (1, 0) ∷ []) ++ ended) "refused 51\n")
+  -- STORED IMAGES: the last of each address is kept where it stands, ST too; a refused one gives only its number
+  pub last-WD-is-kept : Holds (image-converts (stored-one ((4, 1) ∷ (5, 2) ∷ []) ((4, 3) ∷ (3, 4) ∷ [])) (stored-one ((5, 2) ∷ []) ((4, 3) ∷ (3, 4) ∷ [])))
+  pub stored-44-is-refused : Holds (image-converts (stored-one ((4, 1) ∷ []) ((4, 3) ∷ (64, 4) ∷ [])) (ascii "refused 44\n"))
+  pub stored-4-is-refused : Holds (image-converts (image-of 64 (with-descriptors 65 0) [] 1) (ascii "refused 4\n"))
   -- WITHIN MEMORY with LENGTH 0 lets ADDRESS equal the memory's length, and no more: 4, and 34
   pub empty-descriptor-segment-at-the-end-passes-4 : Holds (image-prints (image-of 64 (with-descriptors 64 0) [] 1) "fault 11 0 4 4 0\n")
   pub empty-descriptor-segment-past-the-end-is-4 : Holds (image-prints (image-of 64 (with-descriptors 65 0) [] 1) "refused 4\n")

@@ -1,3 +1,4 @@
 -- Laws of this crate. Assumes nothing.
 pub mod RecordLaws
 pub mod PartLaws
+pub mod SetLaws

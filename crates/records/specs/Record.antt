@@ -3,7 +3,8 @@ use mathlib.Core.Path.{_≡_}
 use mathlib.Core.Bool.{Bool, true, false}
 use mathlib.Core.List.{List, [], _++_}
 use Prim.Native.Nat.{ℕ, _≤_, _<_}
-use lib.ListN.{length, drop}
+use lib.ListN.{length, take, drop}
+use Rattle.addresses.specs.Set.{in-set}
 use Rattle.model.specs.Image as Image
 use Rattle.records.specs.declared.loading.Loading.{Loading}
 use Rattle.records.specs.declared.loading.Outcome.{Outcome}
@@ -42,9 +43,18 @@ pub record Recorded-as (l : Loading) (m bs : List ℕ) (e : Bool) (x : Recorded)
   pub outcome-within : Outcome-within bs e (x .loading) (x .outcome)
   pub kept : Kept (x .outcome) l (x .loading) m m-now
 
--- a record that doesn't ask whether more bytes come
-abbrev pub Recorded-whatever-comes : Loading → (memory bytes : List ℕ) → Recorded → (memory-now : List ℕ) → Type 0
-Recorded-whatever-comes l m bs x m-now = (e : Bool) → Recorded-as l m bs e x m-now
+-- 51 of an address, and what is kept of it: nothing but the set changes, and that only where the answer is yes
+pub record Asked-51 (v : Image.Rules) (a : ℕ) (m : List ℕ) (answer : Bool) (m-now : List ℕ) : Type 0 where
+  pub answered : answer ≡ Image.unless-written v (in-set (drop 8192 m) a)
+  pub memory-same : take 8192 m-now ≡ take 8192 m
+  pub size-same : length m-now ≡ length m
+  pub set-now : answer ≡ true → in-set (drop 8192 m-now) ≡ Image.with-written v a (in-set (drop 8192 m))
+  pub kept : answer ≡ false → m-now ≡ m
+
+-- a record that doesn't ask whether more bytes come, and changes nothing but the store
+pub record Recorded-in-store (l : Loading) (m bs : List ℕ) (x : Recorded) (m-now : List ℕ) : Type 0 where
+  pub loading-same : x .loading ≡ l
+  pub recorded : (e : Bool) → Recorded-as l m bs e x m-now
 
 -- one that writes no word, whatever is lent
 abbrev pub Recorded-with-any-memory : Loading → (bytes : List ℕ) → (ended : Bool) → Recorded → Type 0

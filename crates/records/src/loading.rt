@@ -6,8 +6,10 @@ use host::record::DescriptorBase;
 use host::record::Pointer;
 use host::record::Registers;
 
-// Memory itself is lent beside this; `words` is ME's number.
+// The store is lent beside this: 8,192 words, of which the first `words`, ME's number, are the image's memory, and after them 128
+// words that are the set of the addresses that a WD has had. `is_stored`: by the rules of stored images.
 pub struct Loading {
+    pub is_stored: bool,
     pub has_memory: bool,
     pub words: u32,
     pub has_registers: bool,
@@ -31,8 +33,8 @@ pub struct Recorded {
 }
 
 // Before the first record; what is lent is zeros.
-pub fn nothing_loaded() -> Loading
-    ensures { λ x. ⌜ Starts x ⌝ }
+pub fn nothing_loaded(is_stored: bool) -> Loading
+    ensures { λ x. ⌜ Starts «is_stored» x ⌝ }
 {
     let zero = Pointer {
         ring: 0,
@@ -40,6 +42,7 @@ pub fn nothing_loaded() -> Loading
         word: 0,
     };
     Loading {
+        is_stored,
         has_memory: false,
         words: 0,
         has_registers: false,
@@ -56,8 +59,8 @@ pub fn nothing_loaded() -> Loading
 }
 
 // What is lent before the first record. The length is said once more for those who lend it as a slice.
-pub fn empty_memory() -> [u64; 8192]
-    ensures { λ r. ⌜ (r ≡ replicate 8192 0) × (8192 ≡ length r) ⌝ }
+pub fn empty_store() -> [u64; 8320]
+    ensures { λ r. ⌜ (r ≡ replicate 8320 0) × (8320 ≡ length r) ⌝ }
 {
-    [0; 8192]
+    [0; 8320]
 }

@@ -1,12 +1,12 @@
-// One record, at the front of the bytes: 41 to 44, and what it loads.
+// One record, at the front of the bytes: 41 to 44 and 51, and what it loads.
 ghost use mathlib.Core.Path.{_≡_};
 ghost use mathlib.Core.Option.{some};
 ghost use Prim.Native.Nat.{_≤_, _<_};
 ghost use lib.ListN.{length};
 ghost use Rattle.model.specs.Image as Image;
 ghost use Rattle.fields.specs.Mark.{as-mark, size-of};
-ghost use Rattle.records.specs.Record.{Recorded-as, Recorded-by-itself, Recorded-whatever-comes, Recorded-with-any-memory};
-ghost use Rattle.records.specs.View.{Loading-within};
+ghost use Rattle.records.specs.Record.{Asked-51, Recorded-as, Recorded-by-itself, Recorded-in-store, Recorded-with-any-memory};
+ghost use Rattle.records.specs.View.{Loading-within, rules-of};
 use crate::loading::Loading;
 use crate::loading::Outcome;
 use crate::loading::Recorded;
@@ -18,7 +18,7 @@ use fields::number::number_8;
 use fields::registers::registers_at;
 
 // ME: 42 for a second one, 43, and so many words of memory, which are zeros already.
-pub fn load_memory(loading: Loading, bytes: &[u8]) -> Recorded
+fn load_memory(loading: Loading, bytes: &[u8]) -> Recorded
     requires { ⌜ (Image.mark-of (now bytes) ≡ some Image.ME) × (6 ≤ length (now bytes)) ⌝ }
     ensures { λ x. ⌜ Recorded-by-itself loading (now (bytes .entry)) x ⌝ }
 {
@@ -38,6 +38,7 @@ pub fn load_memory(loading: Loading, bytes: &[u8]) -> Recorded
     let registers = loading.registers;
     Recorded {
         loading: Loading {
+            is_stored: loading.is_stored,
             has_memory: true,
             words,
             has_registers: loading.has_registers,
@@ -48,7 +49,7 @@ pub fn load_memory(loading: Loading, bytes: &[u8]) -> Recorded
 }
 
 // ST: 42 before ME and for a second one, and the registers.
-pub fn load_start(loading: Loading, bytes: &[u8]) -> Recorded
+fn load_start(loading: Loading, bytes: &[u8]) -> Recorded
     requires { ⌜ (Image.mark-of (now bytes) ≡ some Image.ST) × (61 ≤ length (now bytes)) ⌝ }
     ensures { λ x. ⌜ Recorded-by-itself loading (now (bytes .entry)) x ⌝ }
 {
@@ -67,6 +68,7 @@ pub fn load_start(loading: Loading, bytes: &[u8]) -> Recorded
     let registers = registers_at(&bytes[..61]);
     Recorded {
         loading: Loading {
+            is_stored: loading.is_stored,
             has_memory: loading.has_memory,
             words: loading.words,
             has_registers: true,
@@ -76,10 +78,25 @@ pub fn load_start(loading: Loading, bytes: &[u8]) -> Recorded
     }
 }
 
-// WD: 42 before ME, 44, and the word at its address.
-pub fn load_word(loading: Loading, memory: &mut [u64], bytes: &[u8]) -> Recorded
-    requires { ⌜ (Image.mark-of (now bytes) ≡ some Image.WD) × (14 ≤ length (now bytes)) × Loading-within loading (now memory) ⌝ }
-    ensures { λ x. ⌜ Recorded-whatever-comes loading (now (memory .entry)) (now (bytes .entry)) x (now (memory .exit)) ⌝ }
+// 51: whether a WD may write the address; today it is then among those that one has had.
+fn may_write(is_stored: bool, store: &mut [u64], address: usize) -> bool
+    requires { ⌜ (length (now store) ≡ 8320) × (address < 8192) ⌝ }
+    ensures { λ r. ⌜ Asked-51 (rules-of «is_stored») address (now (store .entry)) r (now (store .exit)) ⌝ }
+{
+    if is_stored {
+        return true;
+    }
+    if addresses::is_in(&store[8192..], address) {
+        return false;
+    }
+    addresses::put_in(&mut store[8192..], address);
+    true
+}
+
+// WD: 42 before ME, 44, 51, and the word at its address.
+pub fn load_word(loading: Loading, store: &mut [u64], bytes: &[u8]) -> Recorded
+    requires { ⌜ (Image.mark-of (now bytes) ≡ some Image.WD) × (14 ≤ length (now bytes)) × Loading-within loading (now store) ⌝ }
+    ensures { λ x. ⌜ Recorded-in-store loading (now (store .entry)) (now (bytes .entry)) x (now (store .exit)) ⌝ }
 {
     if !loading.has_memory {
         return Recorded {
@@ -95,7 +112,13 @@ pub fn load_word(loading: Loading, memory: &mut [u64], bytes: &[u8]) -> Recorded
         };
     }
     let i = address as usize;
-    memory[i] = number_8(bytes, 6);
+    if !may_write(loading.is_stored, store, i) {
+        return Recorded {
+            loading,
+            outcome: Outcome::Refused(51),
+        };
+    }
+    store[i] = number_8(bytes, 6);
     Recorded {
         loading,
         outcome: Outcome::Next(14),
@@ -103,7 +126,7 @@ pub fn load_word(loading: Loading, memory: &mut [u64], bytes: &[u8]) -> Recorded
 }
 
 // RN: 42 before ME or ST and where a byte follows, and the budget once the bytes are ended.
-pub fn load_run(loading: Loading, bytes: &[u8], ended: bool) -> Recorded
+fn load_run(loading: Loading, bytes: &[u8], ended: bool) -> Recorded
     requires { ⌜ (Image.mark-of (now bytes) ≡ some Image.RN) × (6 ≤ length (now bytes)) ⌝ }
     ensures { λ x. ⌜ Recorded-with-any-memory loading (now (bytes .entry)) ended x ⌝ }
 {
@@ -138,7 +161,7 @@ pub fn load_run(loading: Loading, bytes: &[u8], ended: bool) -> Recorded
 }
 
 // No whole record: 42 for no bytes at all and 41 for some, once they are ended.
-pub fn load_part(loading: Loading, mark: Mark, bytes: &[u8], ended: bool) -> Recorded
+fn load_part(loading: Loading, mark: Mark, bytes: &[u8], ended: bool) -> Recorded
     requires { ⌜ (as-mark mark ≡ Image.mark-of (now bytes)) × (length (now bytes) < size-of mark) ⌝ }
     ensures { λ x. ⌜ Recorded-with-any-memory loading (now (bytes .entry)) ended x ⌝ }
 {
@@ -161,9 +184,9 @@ pub fn load_part(loading: Loading, mark: Mark, bytes: &[u8], ended: bool) -> Rec
 }
 
 // `ended`: no bytes come after these.
-pub fn load_record(loading: Loading, memory: &mut [u64], bytes: &[u8], ended: bool) -> Recorded
-    requires { ⌜ Loading-within loading (now memory) ⌝ }
-    ensures { λ x. ⌜ Recorded-as loading (now (memory .entry)) (now (bytes .entry)) ended x (now (memory .exit)) ⌝ }
+pub fn load_record(loading: Loading, store: &mut [u64], bytes: &[u8], ended: bool) -> Recorded
+    requires { ⌜ Loading-within loading (now store) ⌝ }
+    ensures { λ x. ⌜ Recorded-as loading (now (store .entry)) (now (bytes .entry)) ended x (now (store .exit)) ⌝ }
 {
     let mark = mark_of(bytes);
     if bytes.len() < size_of(mark) {
@@ -172,7 +195,7 @@ pub fn load_record(loading: Loading, memory: &mut [u64], bytes: &[u8], ended: bo
     match mark {
         Mark::Memory => load_memory(loading, bytes),
         Mark::Start => load_start(loading, bytes),
-        Mark::Word => load_word(loading, memory, bytes),
+        Mark::Word => load_word(loading, store, bytes),
         Mark::Run => load_run(loading, bytes, ended),
         Mark::Unknown => Recorded {
             loading,

@@ -1,5 +1,5 @@
 -- The bench's call is what 03's contract says. Assumes nothing.
-use mathlib.Core.Path.{refl, subst}
+use mathlib.Core.Path.{refl, _∙_, ap, subst}
 use mathlib.Core.Bool.{Bool, true, false, not, cond}
 use mathlib.Core.List.{List}
 use Prim.Native.Nat.{ℕ, zero, suc, _+_, _*_, _≤_}
@@ -7,7 +7,8 @@ use native.Mathlib.Omega.{arith}
 use lib.Dec.{ltb, eqb, eqb·suc-zero}
 use lib.ListN.{length}
 use Rattle.model.specs.Image.{Image, refused-image, loaded, image}
-use Rattle.model.specs.Bench.{negated, bench-refused, bench-listed, bench-on, bench}
+use Rattle.model.proofs.ConvertLaws.{rules-agree}
+use Rattle.model.specs.Bench.{negated, call-refused, call-wrote, bench-on, bench}
 use Rattle.reference.specs.Run as Run03
 use Rattle.reference.specs.Entry as Entry03
 use Rattle.reference.specs.View as View
@@ -24,7 +25,7 @@ Says-of i x out =
     (Run03.listing (i .budget) (record { regs = i .regs; mem = i .mem })) (bench-on x out .answer) out (bench-on x out .buffer)
 
 bench-says : (x : Image) (out : List ℕ) → Judged x → Says-of (View.image x) x out
-unfolding Says-of Judged negated bench-refused bench-listed bench-on View.image Run03.bad-image Entry03.Bench-says
+unfolding Says-of Judged negated call-refused call-wrote bench-on View.image Run03.bad-image Entry03.Bench-says
 bench-says (refused-image zero) out s = absurd (let z : 1 ≤ 0 = s in omega arith)
 bench-says (refused-image (suc n)) out s = rw (eqb·suc-zero n) (refl, refl)
 bench-says (loaded m b) out s = rw (leb-is-not-ltb (64 * (b + 1)) (length out), listing-equal b m s) (by-test (ltb (length out) (64 * (b + 1))))
@@ -33,11 +34,12 @@ bench-says (loaded m b) out s = rw (leb-is-not-ltb (64 * (b + 1)) (length out), 
     text = Run03.listing b (View.machine m)
 
     by-test : (t : Bool) →
-        Entry03.Bench-says (cond t 45 0) text (cond (not t) (bench-listed text out) (bench-refused 45 out) .answer) out
-        (cond (not t) (bench-listed text out) (bench-refused 45 out) .buffer)
+        Entry03.Bench-says (cond t 45 0) text (cond (not t) (call-wrote text out) (call-refused 45 out) .answer) out
+        (cond (not t) (call-wrote text out) (call-refused 45 out) .buffer)
     by-test true = (refl, refl)
     by-test false = (refl, refl)
 
 pub bench-equal : Bench-equal
 unfolding bench Says-of Entry03.bench-refusal Entry03.listing-of
-bench-equal bs out = subst (λ (i : Run03.Image). Says-of i (image bs) out) (image-equal bs) (bench-says (image bs) out (image-judged bs))
+bench-equal bs out once =
+    subst (λ (i : Run03.Image). Says-of i (image bs) out) (ap View.image (rules-agree bs once) ∙ image-equal bs) (bench-says (image bs) out (image-judged bs))

@@ -9,7 +9,7 @@ use lib.ListN.{length}
 use Rattle.model.specs.Registers.{Machine}
 use Rattle.model.specs.Questions.{start-questions}
 use Rattle.model.specs.Run.{unless-refused}
-use Rattle.model.specs.Image.{Mark, ME, ST, WD, RN, mark-of, record-size, Loading, nothing-loaded, machine-of, record-questions, Image, refused-image, loaded, checked, record-on, whole-record-on, marked-on, bytes-on, image-from, image-after, image}
+use Rattle.model.specs.Image.{Mark, ME, ST, WD, RN, mark-of, record-size, today, Loading, nothing-loaded, machine-of, record-questions, Image, refused-image, loaded, checked, record-on, whole-record-on, marked-on, bytes-on, image-from, image-after, image}
 use Rattle.model.proofs.BranchLaws.{cond-holds}
 
 unfoldable pub Judged : Image → Type 0
@@ -44,7 +44,7 @@ image-from-judged (suc n) l (b ∷ bs) = marked-on-judged (mark-of (b ∷ bs)) l
 
 pub image-judged : (bs : List ℕ) → Judged (image bs)
 unfolding image image-after
-image-judged bs = image-from-judged (suc (length bs)) nothing-loaded bs
+image-judged bs = image-from-judged (suc (length bs)) (nothing-loaded today) bs
 
 pub loaded-passes : (bs : List ℕ) (m : Machine) (b : ℕ) → image bs ≡ loaded m b → start-questions m ≡ 0
 unfolding Judged

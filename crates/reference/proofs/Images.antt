@@ -1,4 +1,4 @@
--- An image of the model is 03's. Assumes nothing.
+-- A stored image of the model is 03's. Assumes nothing.
 use mathlib.Core.Path.{_≡_, refl, _∙_, ap, ap₂}
 use mathlib.Core.Bool.{Bool, true, false, _&&_, _||_, not, cond}
 use mathlib.Core.List.{List, [], _∷_}
@@ -11,7 +11,7 @@ use borrow.Author.Tests.{eqb-true, ltb-true, ltb-false, eq-eqb, ne-eqb}
 use Rattle.model.specs.Registers.{Machine, machine}
 use Rattle.model.specs.Questions.{ask, start-questions}
 use Rattle.model.specs.Run.{unless-refused}
-use Rattle.model.specs.Image.{Mark, ME, ST, WD, RN, marked, mark-of, record-size, number-at, Loading, nothing-loaded, has, or-else, memory-of, zero-registers, machine-of, in-order, memory-allowed, address-allowed, record-questions, with-record, Image, refused-image, loaded, checked, record-on, whole-record-on, marked-on, bytes-on, image-from, image-after, image}
+use Rattle.model.specs.Image.{Mark, ME, ST, WD, RN, marked, mark-of, record-size, number-at, stored, Loading, nothing-loaded, has, or-else, memory-of, zero-registers, machine-of, in-order, memory-allowed, address-allowed, unless-written, address-new, record-questions, with-word, with-record, Image, refused-image, loaded, checked, record-on, whole-record-on, marked-on, bytes-on, image-from, image-after, stored-image}
 use Rattle.model.proofs.BranchLaws.{and-left}
 use Rattle.model.proofs.QuestionLaws.{ask-yes}
 use Rattle.reference.specs.Run as Run03
@@ -141,11 +141,16 @@ checked-view m b = rw (← (start-equal m)) (by-answer (start-questions m))
 
 -- one record on both sides, opened together
 unfoldable records-opened : Unit {0}
-unfolding long-of refusal-of record-of read-by mark-by has or-else memory-of machine-of record-size in-order memory-allowed address-allowed record-questions with-record record-on whole-record-on marked-on
+unfolding long-of refusal-of record-of read-by mark-by has or-else memory-of machine-of record-size in-order memory-allowed address-allowed address-new record-questions with-word with-record record-on whole-record-on marked-on
 records-opened = tt
 
-module _ (n : ℕ) (l : Loading) (bs : List ℕ) (f : Loading → List ℕ → Image)
-    (h : (j : Loading) (rest : List ℕ) → View.image (f j rest) ≡ Run03.image-from n (loading j) rest) where
+-- 51 is not asked of a stored image
+not-asked : (b : Bool) → b ≡ true → ask b 51 0 ≡ 0
+unfolding ask
+not-asked b e = rw e refl
+
+module _ (n : ℕ) (l : Loading) (bs : List ℕ) (v : l .rules ≡ stored) (f : Loading → List ℕ → Image)
+    (h : (j : Loading) (rest : List ℕ) → j .rules ≡ stored → View.image (f j rest) ≡ Run03.image-from n (loading j) rest) where
   unfoldable Read-alike : (me st wd rn : Bool) → Type 0
   Read-alike me st wd rn = View.image (marked-on (mark-by me st wd rn) l bs f) ≡ read-by me st wd rn n (loading l) bs
 
@@ -158,10 +163,10 @@ module _ (n : ℕ) (l : Loading) (bs : List ℕ) (f : Loading → List ℕ → I
       (ask-is-cond (leb 6 long) (ltb long 6) 41 (leb-is-not-ltb 6 long)
       (ask-is-cond (not a) ((cond a true false || false) || false) 42 (me-first a)
       (ask-is-cond (leb (number-at 2 4 bs) 8192) (ltb 8192 (Run03.big 2 4 bs)) 43
-      (ap (λ x. leb x 8192) (number-equal 2 4 bs) ∙ leb-is-not-ltb (Run03.big 2 4 bs) 8192) (ask-is-cond true false 44 refl refl))))
+      (ap (λ x. leb x 8192) (number-equal 2 4 bs) ∙ leb-is-not-ltb (Run03.big 2 4 bs) 8192) (ask-is-cond true false 44 refl (not-asked true refl)))))
       (λ _.
-      h (with-record ME l bs) (drop 6 bs)
-      ∙ ap (λ x. Run03.image-from n (loading (record { memory = some (replicate x 0); registers = l .registers })) (drop 6 bs)) (number-equal 2 4 bs))
+      h (with-record ME l bs) (drop 6 bs) v
+      ∙ ap (λ x. Run03.image-from n (record { refusal = 0; has-me = true; has-st = has (l .registers); regs = View.regs (or-else zero-registers (l .registers)); mem = replicate x 0; budget = 0 }) (drop 6 bs)) (number-equal 2 4 bs))
 
   st-alike : Read-alike false true false false
   unfolding Read-alike records-opened
@@ -172,11 +177,15 @@ module _ (n : ℕ) (l : Loading) (bs : List ℕ) (f : Loading → List ℕ → I
       record-view (leb 61 long) (record-questions ST l (length (drop 61 bs)) bs) (refusal-of false true false false (loading l) bs) _ _
       (ask-is-cond (leb 61 long) (ltb long 61) 41 (leb-is-not-ltb 61 long)
       (ask-is-cond (a && not b) ((cond a false true || b) || false) 42 (st-single a b)
-      (ask-is-cond true false 43 refl (ask-is-cond true false 44 refl refl))))
+      (ask-is-cond true false 43 refl (ask-is-cond true false 44 refl (not-asked true refl)))))
       (λ e.
-      h (with-record ST l bs) (drop 61 bs)
+      h (with-record ST l bs) (drop 61 bs) v
       ∙ ap₂ (λ t r. Run03.image-from n (record { refusal = 0; has-me = t; has-st = true; regs = r; mem = memory-of l; budget = 0 }) (drop 61 bs))
       (and-left a (not b) (ask-yes (a && not b) _ _ (ask-yes (leb 61 long) _ _ e .1) .0)) (registers-at-view bs))
+
+  may-write : address-new WD l bs ≡ true
+  unfolding address-new unless-written
+  may-write = rw v refl
 
   wd-alike : Read-alike false false true false
   unfolding Read-alike records-opened
@@ -188,10 +197,10 @@ module _ (n : ℕ) (l : Loading) (bs : List ℕ) (f : Loading → List ℕ → I
       (ask-is-cond a ((cond a false true || false) || false) 42 (me-before a)
       (ask-is-cond true false 43 refl
       (ask-is-cond (ltb (number-at 2 4 bs) (length (memory-of l))) (leb (length (memory-of l)) (Run03.big 2 4 bs)) 44
-      (ap (λ x. ltb x (length (memory-of l))) (number-equal 2 4 bs) ∙ ltb-is-not-leb (Run03.big 2 4 bs) (length (memory-of l))) refl))))
+      (ap (λ x. ltb x (length (memory-of l))) (number-equal 2 4 bs) ∙ ltb-is-not-leb (Run03.big 2 4 bs) (length (memory-of l))) (not-asked (address-new WD l bs) may-write)))))
       (λ _.
-      h (with-record WD l bs) (drop 14 bs)
-      ∙ ap₂ (λ x v. Run03.image-from n (loading (record { memory = some (set (memory-of l) x v); registers = l .registers })) (drop 14 bs))
+      h (with-record WD l bs) (drop 14 bs) v
+      ∙ ap₂ (λ x c. Run03.image-from n (record { refusal = 0; has-me = true; has-st = has (l .registers); regs = View.regs (or-else zero-registers (l .registers)); mem = set (memory-of l) x c; budget = 0 }) (drop 14 bs))
       (number-equal 2 4 bs) (number-equal 6 8 bs))
 
   rn-alike : Read-alike false false false true
@@ -203,7 +212,7 @@ module _ (n : ℕ) (l : Loading) (bs : List ℕ) (f : Loading → List ℕ → I
       record-view (leb 6 long) (record-questions RN l (length (drop 6 bs)) bs) (refusal-of false false false true (loading l) bs) _ _
       (ask-is-cond (leb 6 long) (ltb long 6) 41 (leb-is-not-ltb 6 long)
       (ask-is-cond (a && (b && eqb (length (drop 6 bs)) 0)) ((cond a false true || false) || (not b || ltb 6 long)) 42
-      (rn-last a b (eqb (length (drop 6 bs)) 0) (ltb 6 long) (none-after bs)) (ask-is-cond true false 43 refl (ask-is-cond true false 44 refl refl))))
+      (rn-last a b (eqb (length (drop 6 bs)) 0) (ltb 6 long) (none-after bs)) (ask-is-cond true false 43 refl (ask-is-cond true false 44 refl (not-asked true refl)))))
       (λ _. checked-view (machine-of l) (number-at 2 4 bs) ∙ ap (λ x. Run03.checked (ready (machine-of l) x)) (number-equal 2 4 bs))
 
   none-alike : Read-alike false false false false
@@ -216,13 +225,13 @@ module _ (n : ℕ) (l : Loading) (bs : List ℕ) (f : Loading → List ℕ → I
   alike = mark-cases Read-alike bs me-alike st-alike wd-alike rn-alike none-alike
 
 -- THE IMAGE
-image-from-view : (n : ℕ) (l : Loading) (bs : List ℕ) → View.image (image-from n l bs) ≡ Run03.image-from n (loading l) bs
+image-from-view : (n : ℕ) (l : Loading) (bs : List ℕ) → l .rules ≡ stored → View.image (image-from n l bs) ≡ Run03.image-from n (loading l) bs
 unfolding image-from bytes-on View.image long-of refusal-of record-of read-by Run03.image-from Run03.record-refusal Run03.record-long Run03.with-record
-image-from-view zero l bs = refl
-image-from-view (suc n) l [] = refl
-image-from-view (suc n) l (b ∷ bs) =
-    rw (eqb·suc-zero (length bs)) (alike n l (b ∷ bs) (λ j rest. image-from n j rest) (λ j rest. image-from-view n j rest))
+image-from-view zero l bs v = refl
+image-from-view (suc n) l [] v = refl
+image-from-view (suc n) l (b ∷ bs) v =
+    rw (eqb·suc-zero (length bs)) (alike n l (b ∷ bs) v (λ j rest. image-from n j rest) (λ j rest r. image-from-view n j rest r))
 
 pub image-equal : Image-equal
-unfolding image image-after has or-else memory-of Run03.image
-image-equal bs = image-from-view (suc (length bs)) nothing-loaded bs
+unfolding stored-image image-after has or-else memory-of Run03.image
+image-equal bs = image-from-view (suc (length bs)) (nothing-loaded stored) bs refl

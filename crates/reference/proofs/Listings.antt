@@ -10,7 +10,8 @@ use Rattle.model.specs.Words.{Pointer}
 use Rattle.model.specs.Registers.{Machine}
 use Rattle.model.specs.Questions.{start-questions}
 use Rattle.model.specs.Run.{spent, halted, fault, Ran, ran, run, trace}
-use Rattle.model.specs.Image.{image}
+use Rattle.model.specs.Image.{image, stored-image}
+use Rattle.model.proofs.ConvertLaws.{today-as-stored}
 use Rattle.model.specs.Listing.{ascii, digits, decimal, line, step-line, step-lines, last-line, listing, image-listing, image-text}
 use Rattle.model.specs.Answers.{numbers, reply-numbers}
 use Rattle.model.specs.Ends.{Ends, by-refusal, by-fault, by-halt, by-budget}
@@ -85,13 +86,13 @@ listing-equal b m s =
     ∙ ap (λ k. Run03.lines-from k 0 (View.machine m)) (sym (run-counts b m .1) ∙ ap (λ (r : Run03.Reply). r .count) reply))
     (last-line-view b m s ∙ ap Run03.last-line reply)
 
--- 03's text of an image is that of what the image loads
+-- 03's text of an image is that of what the stored image loads
 text-view : (bs : List ℕ) → Entry03.listing-of bs
-    ≡ Run03.listing (View.image (image bs) .budget) (record { regs = View.image (image bs) .regs; mem = View.image (image bs) .mem })
+    ≡ Run03.listing (View.image (stored-image bs) .budget) (record { regs = View.image (stored-image bs) .regs; mem = View.image (stored-image bs) .mem })
 unfolding Entry03.listing-of
 text-view bs =
     ap (λ (i : Run03.Image). Run03.listing (i .budget) (record { regs = i .regs; mem = i .mem })) (sym (image-equal bs))
 
 pub text-equal : Text-equal
 unfolding image-text image-listing View.image
-text-equal bs m b e = rw (text-view bs, e) (listing-equal b m (loaded-passes bs m b e))
+text-equal bs m b e = rw (text-view bs, today-as-stored bs m b e, e) (listing-equal b m (loaded-passes bs m b e))

@@ -10,8 +10,10 @@ use Rattle.model.specs.Questions.{start-questions}
 use Rattle.model.specs.Step.{step}
 use Rattle.model.specs.Run.{run, stretch}
 use Rattle.model.specs.Reach.{is-descriptor-word, observable, writable}
-use Rattle.model.specs.Image.{loaded, image}
+use Rattle.model.specs.Image.{loaded, image, stored-image}
 use Rattle.model.specs.Listing.{listing, image-text}
+use Rattle.model.specs.Convert.{records}
+use Rattle.model.specs.Converted.{One-an-address}
 use Rattle.model.specs.Bench.{bench}
 use Rattle.model.specs.Lent.{lent-run}
 use Rattle.reference.specs.Machine as Machine03
@@ -57,9 +59,9 @@ Reach-equal =
     × (writable n m x ≡ Promise03.writable n (View.regs (m .registers)) (m .memory) x)
     × (is-descriptor-word m x ≡ (ltb x (length (m .memory)) && Promise03.is-descriptor-word (View.regs (m .registers)) x))
 
--- an image is refused with the same number, or loads the same machine and budget
+-- a stored image is refused with the same number, or loads the same machine and budget; what 51 changes for today's is said in the model (Converted)
 abbrev pub Image-equal : Type 0
-Image-equal = (bs : List ℕ) → View.image (image bs) ≡ Run03.image bs
+Image-equal = (bs : List ℕ) → View.image (stored-image bs) ≡ Run03.image bs
 
 -- a run that 1 to 4 let start has the same text; of a refused one 03 prints a fault line, where 01 says `refused NUMBER`
 abbrev pub Listing-equal : Type 0
@@ -69,10 +71,10 @@ Listing-equal = (b : ℕ) (m : Machine) → start-questions m ≡ 0 → listing 
 abbrev pub Text-equal : Type 0
 Text-equal = (bs : List ℕ) (m : Machine) (b : ℕ) → image bs ≡ loaded m b → image-text bs ≡ Entry03.listing-of bs
 
--- the bench's call answers and leaves what 03's contract says
+-- the bench's call answers and leaves what 03's contract says, where no word is written twice
 abbrev pub Bench-equal : Type 0
 Bench-equal =
-    (bs out : List ℕ) →
+    (bs out : List ℕ) → One-an-address (records bs) →
     Entry03.Bench-says (Entry03.bench-refusal bs (length out)) (Entry03.listing-of bs) (bench bs out .answer) out (bench bs out .buffer)
 
 -- a run over lent words answers and leaves what 03's contract says; of a longer memory 01 asks 1 before the record's length, 03 after it

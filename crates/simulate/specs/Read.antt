@@ -7,10 +7,10 @@ use Rattle.image.specs.declared.load.LoadOutcome.the-variants.{Refused, More, R
 use Rattle.image.specs.declared.load.Loaded.{Loaded}
 
 -- the image's memory is the front of what is lent
-abbrev pub Words-within : LoadOutcome → (words : ℕ) → (memory : List ℕ) → Type 0
+abbrev pub Words-within : LoadOutcome → (words : ℕ) → (store : List ℕ) → Type 0
 Words-within (Refused n) w m = Unit {0}
 Words-within (More kept) w m = Unit {0}
 Words-within (Ready budget) w m = w ≤ length m
 
-abbrev pub Ready-within : Loaded → (memory : List ℕ) → Type 0
+abbrev pub Ready-within : Loaded → (store : List ℕ) → Type 0
 Ready-within x m = Words-within (x .outcome) (x .loading .words) m

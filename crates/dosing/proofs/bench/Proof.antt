@@ -4,8 +4,8 @@ use Rattle.dosing.proofs.BenchLaws.{whole-image}
 use Rattle.dosing.proofs.bench.Statement.{statement}
 use Rattle.dosing.proofs.bench.Tie as tie
 
-empty-memory-requires : tie.Need-empty-memory-requires
-empty-memory-requires c κs = search needs
+empty-store-requires : tie.Need-empty-store-requires
+empty-store-requires c κs = search needs
 
 nothing-loaded-requires : tie.Need-nothing-loaded-requires
 nothing-loaded-requires c κs = search needs
@@ -28,8 +28,8 @@ enum-known-outcome-3 c = search needs
 cast-words : tie.Need-cast-words
 cast-words c = search needs
 
-array-borrow-prefix-memory : tie.Need-array-borrow-prefix-memory
-array-borrow-prefix-memory c = search (needs, whole-image)
+array-borrow-prefix-store : tie.Need-array-borrow-prefix-store
+array-borrow-prefix-store c = search (needs, whole-image)
 
 slice-aggregate-list-loaded : tie.Need-slice-aggregate-list-loaded
 slice-aggregate-list-loaded c = search (needs, whole-image)
@@ -53,7 +53,7 @@ pub bench-spec : {M : Type 1} → statement M
 bench-spec =
     tie.close
     (tie.spec
-    empty-memory-requires
+    empty-store-requires
     nothing-loaded-requires
     slice-aggregate-load
     load-requires
@@ -61,7 +61,7 @@ bench-spec =
     enum-known-outcome-2
     enum-known-outcome-3
     cast-words
-    array-borrow-prefix-memory
+    array-borrow-prefix-store
     slice-aggregate-list-loaded
     list-loaded-requires
     returns

@@ -5,8 +5,8 @@ use Rattle.simulate.proofs.ReadLaws.{ready-words}
 use Rattle.simulate.proofs.main.Statement.{statement}
 use Rattle.simulate.proofs.main.Tie as tie
 
-empty-memory-requires : tie.Need-empty-memory-requires
-empty-memory-requires c κs = search needs
+empty-store-requires : tie.Need-empty-store-requires
+empty-store-requires c κs = search needs
 
 slice-aggregate-read-image : tie.Need-slice-aggregate-read-image
 slice-aggregate-read-image c = search needs
@@ -29,8 +29,8 @@ enum-known-outcome-3 c = search needs
 cast-words : tie.Need-cast-words
 cast-words c = search needs
 
-array-borrow-prefix-memory : tie.Need-array-borrow-prefix-memory
-array-borrow-prefix-memory c = search (needs, part-size, ready-words)
+array-borrow-prefix-store : tie.Need-array-borrow-prefix-store
+array-borrow-prefix-store c = search (needs, part-size, ready-words)
 
 slice-aggregate-run-image : tie.Need-slice-aggregate-run-image
 slice-aggregate-run-image c = search (needs, part-size, ready-words)
@@ -51,7 +51,7 @@ pub main-spec : {M : Type 1} → statement M
 main-spec =
     tie.close
     (tie.spec
-    empty-memory-requires
+    empty-store-requires
     slice-aggregate-read-image
     read-image-requires
     enum-known-outcome
@@ -59,7 +59,7 @@ main-spec =
     enum-known-outcome-2
     enum-known-outcome-3
     cast-words
-    array-borrow-prefix-memory
+    array-borrow-prefix-store
     slice-aggregate-run-image
     run-image-requires
     returns

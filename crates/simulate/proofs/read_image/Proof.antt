@@ -12,11 +12,11 @@ use Rattle.simulate.proofs.read_image.Statement.{statement}
 use Rattle.simulate.proofs.read_image.Tie as tie
 
 abbrev Inv-loop : tie.InvT-loop
-Inv-loop memory₀ buffer₀ x₀ kept₀ turns₀ t11 memory buffer x kept turns =
-    (65536 ≡ length buffer) × (kept < 61) × (length memory ≡ length memory₀) × (x .outcome ≡ More kept) × Loading-within (x .loading) memory
+Inv-loop store₀ buffer₀ x₀ kept₀ turns₀ t11 store buffer x kept turns =
+    (65536 ≡ length buffer) × (kept < 61) × (length store ≡ length store₀) × (x .outcome ≡ More kept) × Loading-within (x .loading) store
 
 abbrev μ-loop : tie.MeasureT-loop
-μ-loop memory₀ buffer₀ x₀ kept₀ turns₀ t11 memory buffer x kept turns = turns
+μ-loop store₀ buffer₀ x₀ kept₀ turns₀ t11 store buffer x kept turns = turns
 
 large-buffer-requires : tie.Need-large-buffer-requires Inv-loop μ-loop
 large-buffer-requires c κs = search (needs, may-load, read-pieces, reads)

@@ -27,6 +27,11 @@ pub struct Comparer {
     texts: [Vec<u8>; 2],
 }
 
+/// Bytes behind a buffer, which the library must leave alone like those before it.
+const BEHIND: usize = 64;
+/// The largest budget for which a converted image is run.
+const BUDGET: u32 = 4000;
+
 impl Comparer {
     pub fn new() -> Comparer {
         Comparer {
@@ -120,11 +125,17 @@ impl Comparer {
         Err(Difference(text))
     }
 
-    /// The bench's call: the answer, and every byte of the buffer. `filler` is what the buffer holds before.
+    /// The bench's call, and the conversion of the same bytes. Answers what the bench's call does.
     pub fn image(&mut self, image: &[u8], text_length: usize, filler: u8) -> Result<i64, Difference> {
         self.images += 1;
-        // Bytes before and behind the buffer, which the library must leave alone; image and buffer start anywhere.
-        const BEHIND: usize = 64;
+        let answer = self.bench(image, text_length, filler)?;
+        self.conversion(image, filler)?;
+        Ok(answer)
+    }
+
+    /// The bench's call: the answer, and every byte of the buffer. `filler` is what the buffer holds before.
+    fn bench(&mut self, image: &[u8], text_length: usize, filler: u8) -> Result<i64, Difference> {
+        // Image and buffer start anywhere.
         let start = usize::from(filler % 8);
         self.image.clear();
         self.image.resize(start, 0);
@@ -147,6 +158,80 @@ impl Comparer {
             text += &format!("\n  second:\n{}\n  library:\n{}", part(mine), part(theirs));
         }
         Err(Difference(text))
+    }
+
+    /// The conversion, in place: the answer, every byte of the image and the bytes around it, refused or not. Where it
+    /// drops something, what comes out is looked at as well.
+    fn conversion(&mut self, image: &[u8], filler: u8) -> Result<(), Difference> {
+        let mine = second::convert(image);
+        self.convert("kuzhlemor_convert", image, &mine, filler)?;
+        self.reach.conversion(image, &mine);
+        match mine {
+            Ok(new) if new.len() < image.len() => {
+                self.convert("kuzhlemor_convert of what it gave", &new, &Ok(new.clone()), !filler)?;
+                self.listing_stays(image, &new, filler)
+            }
+            _ => Ok(()),
+        }
+    }
+
+    /// Is this the library's answer, and are these the bytes? Behind what it gives they stay as they were.
+    fn convert(&mut self, call: &str, image: &[u8], mine: &Result<Vec<u8>, u8>, filler: u8) -> Result<(), Difference> {
+        let start = usize::from(filler >> 3) % 8;
+        let [expected, lent] = &mut self.texts;
+        for bytes in [&mut *expected, &mut *lent] {
+            bytes.clear();
+            bytes.resize(start, filler);
+            bytes.extend_from_slice(image);
+            bytes.resize(start + image.len() + BEHIND, filler);
+        }
+        let my_answer = match mine {
+            Ok(new) => {
+                expected[start..start + new.len()].copy_from_slice(new);
+                new.len() as i64
+            }
+            Err(number) => -i64::from(*number),
+        };
+        let answer = crate::library::convert(&mut lent[start..start + image.len()]);
+        if my_answer == answer && expected == lent {
+            return Ok(());
+        }
+        let mut text = format!("{call}, {} bytes: second {my_answer}, library {answer}", image.len());
+        if let Some(first) = expected.iter().zip(&*lent).position(|(mine, theirs)| mine != theirs) {
+            let end = (first + 16).min(lent.len());
+            text += &format!("\n  from byte {} of the image on:", first as i64 - start as i64);
+            text += &format!("\n  second  {:02x?}\n  library {:02x?}", &expected[first..end], &lent[first..end]);
+        }
+        Err(Difference(text))
+    }
+
+    /// Is the listing of `new`, which the library has given, what `old` means by the stored rules?
+    fn listing_stays(&mut self, old: &[u8], new: &[u8], filler: u8) -> Result<(), Difference> {
+        let stored = match second::read_stored_image(old) {
+            Ok(stored) if stored.budget <= BUDGET => stored,
+            _ => return Ok(()),
+        };
+        let [mine, theirs] = &mut self.texts;
+        theirs.clear();
+        theirs.resize(64 * (stored.budget as usize + 1), filler);
+        mine.clear();
+        if second::listing::list_run(stored, mine).is_err() {
+            return Err(Difference("second's own listing".to_string()));
+        }
+        let length = mine.len();
+        mine.resize(theirs.len(), filler);
+        let answer = crate::library::bench(new, theirs);
+        if answer == length as i64 && mine == theirs {
+            self.reach.listed();
+            return Ok(());
+        }
+        let shown = |text: &[u8]| String::from_utf8_lossy(&text[..text.len().min(200)]).into_owned();
+        Err(Difference(format!(
+            "kuzhlemor_bench of what kuzhlemor_convert gave: second {length}, library {answer}\n  second:\n{}\n  \
+             library:\n{}",
+            shown(mine),
+            shown(theirs)
+        )))
     }
 }
 

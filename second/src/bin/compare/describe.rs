@@ -1,6 +1,7 @@
 //! A failing input: made smaller, written as an image, and in words.
 
 use crate::compare::Machine;
+use second::image::Record;
 use second::{Descriptor, Instruction, Pointer, Registers};
 
 /// RING 1, SEGNO 2, WORDNO 2.
@@ -38,6 +39,18 @@ pub fn image(machine: &Machine) -> Vec<u8> {
     image.extend(b"RN");
     image.extend(machine.budget.to_be_bytes());
     image
+}
+
+/// An image's first records in words, in order.
+pub fn records(image: &[u8]) -> String {
+    let names = second::image::records(image).map(|(record, _)| match record {
+        Record::Me { words } => format!("ME {words}"),
+        Record::St { .. } => "ST".to_string(),
+        Record::Wd { address, word } => format!("WD {address} {word:#x}"),
+        Record::Rn { budget } => format!("RN {budget}"),
+    });
+    let names: Vec<String> = names.take(100).collect();
+    format!("records, at most 100 of them: {}", names.join(", "))
 }
 
 /// The machine in words.

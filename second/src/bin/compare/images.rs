@@ -32,23 +32,25 @@ pub fn rn(budget: u32) -> Vec<u8> {
     record(b"RN", &[&budget.to_be_bytes()])
 }
 
-/// A machine's records: ME, ST somewhere, its words in some order, some twice, RN.
+/// A machine's records: ME, ST somewhere, its words in some order, RN. In some images addresses come twice.
 pub fn records(random: &mut Random, machine: &Machine) -> Vec<Vec<u8>> {
     let mut words = Vec::new();
     for (address, word) in machine.memory.iter().enumerate() {
-        if *word != 0 {
-            if random.chance(30) {
-                words.push(wd(address as u32, random.next()));
-            }
+        if *word != 0 || random.chance(10) {
             words.push(wd(address as u32, *word));
-        } else if random.chance(10) {
-            words.push(wd(address as u32, 0));
         }
     }
     if random.chance(300) {
-        // Some order, but with the later of two still later: turned round by a number of records.
-        let by = random.below(words.len() + 1);
-        words.rotate_left(by);
+        shuffle(random, &mut words);
+    }
+    if random.chance(150) {
+        // Records before those with the words that count, so that the machine stays what the stored image means.
+        for _ in 0..random.between(1, 8).min(words.len()) {
+            let place = random.below(words.len());
+            let mut again = words[place].clone();
+            another_word(random, &mut again);
+            words.insert(random.below(place + 1), again);
+        }
     }
     words.insert(random.below(words.len() + 1), st(&machine.registers));
     words.insert(0, me(machine.memory.len() as u32));
@@ -56,7 +58,21 @@ pub fn records(random: &mut Random, machine: &Machine) -> Vec<Vec<u8>> {
     words
 }
 
-fn compare(comparer: &mut Comparer, random: &mut Random, image: &[u8], length: usize) -> Result<i64, Failure> {
+/// Mostly gives a WD record another word.
+fn another_word(random: &mut Random, wd: &mut [u8]) {
+    if random.chance(700) {
+        wd[6..].copy_from_slice(&random.next().to_be_bytes());
+    }
+}
+
+/// Any order, each as likely.
+pub fn shuffle<T>(random: &mut Random, list: &mut [T]) {
+    for end in (1..list.len()).rev() {
+        list.swap(end, random.below(end + 1));
+    }
+}
+
+pub fn compare(comparer: &mut Comparer, random: &mut Random, image: &[u8], length: usize) -> Result<i64, Failure> {
     comparer.image(image, length, random.next() as u8).map_err(|difference| (image.to_vec(), length, difference))
 }
 
@@ -134,8 +150,16 @@ pub fn all_damages(comparer: &mut Comparer, random: &mut Random, machine: &Machi
         dropped.remove(one);
         compare(comparer, random, &dropped.concat(), length)?;
         for other in 0..=records.len() {
+            let mut again = records[one].clone();
+            if again.starts_with(b"WD") {
+                // 51 wherever it goes: some of the places are enough.
+                if !random.chance(300) {
+                    continue;
+                }
+                another_word(random, &mut again);
+            }
             let mut doubled = records.clone();
-            doubled.insert(other, records[one].clone());
+            doubled.insert(other, again);
             compare(comparer, random, &doubled.concat(), length)?;
         }
         for other in one + 1..records.len() {
@@ -150,20 +174,22 @@ pub fn all_damages(comparer: &mut Comparer, random: &mut Random, machine: &Machi
     Ok(comparer.images - before)
 }
 
+/// ST with this DBR, IPR in segment 1 and the PRs nowhere.
+pub fn state(address: u32, length: u16, ipr: u8, pr: u8) -> Vec<u8> {
+    let mut record = b"ST".to_vec();
+    record.extend(7_u64.to_be_bytes());
+    record.extend(address.to_be_bytes());
+    record.extend(length.to_be_bytes());
+    record.extend(pointer_bytes(Pointer { ring: ipr, segno: 1, wordno: 0 }));
+    for _ in 0..8 {
+        record.extend(pointer_bytes(Pointer { ring: pr, segno: 4095, wordno: 65_535 }));
+    }
+    record
+}
+
 /// Every sequence of at most `depth` records, good and bad, with a buffer of 256 bytes: enough for a budget of 3.
 pub fn sequences(comparer: &mut Comparer, random: &mut Random, depth: usize) -> Result<u64, Failure> {
     let before = comparer.images;
-    let good = |address: u32, length: u16, ipr: u8, pr: u8| {
-        let mut record = b"ST".to_vec();
-        record.extend(7_u64.to_be_bytes());
-        record.extend(address.to_be_bytes());
-        record.extend(length.to_be_bytes());
-        record.extend(pointer_bytes(Pointer { ring: ipr, segno: 1, wordno: 0 }));
-        for _ in 0..8 {
-            record.extend(pointer_bytes(Pointer { ring: pr, segno: 4095, wordno: 65_535 }));
-        }
-        record
-    };
     // Word 1 describes words 4 to 7, which the WD fills with LDI.
     let code = Descriptor { address: 4, length: 4, r2: 7, r3: 7, e: true, v: true, ..Default::default() };
     let tokens: Vec<Vec<u8>> = vec![
@@ -171,13 +197,14 @@ pub fn sequences(comparer: &mut Comparer, random: &mut Random, depth: usize) -> 
         me(8192),
         me(8193),
         me(0),
-        good(0, 2, 3, 4),
-        good(1 << 24, 2, 3, 4), // 2
-        good(0, 2, 4, 3),       // 3
-        good(0, 9000, 3, 4),    // 4
-        good(9000, 0, 8, 4),    // 2, then 4
+        state(0, 2, 3, 4),
+        state(1 << 24, 2, 3, 4), // 2
+        state(0, 2, 4, 3),       // 3
+        state(0, 9000, 3, 4),    // 4
+        state(9000, 0, 8, 4),    // 2, then 4
         wd(1, code.to_word()),
         wd(7, 10 << 24),
+        wd(7, 9 << 24), // the same address
         wd(8, 1),
         rn(3),
         rn(4), // 45
@@ -190,32 +217,32 @@ pub fn sequences(comparer: &mut Comparer, random: &mut Random, depth: usize) -> 
         b"WD\0\0\0\x01\0\0\0".to_vec(),
         b"RN\0\0\0".to_vec(),
     ];
-    let mut image = Vec::new();
-    let mut ends = Vec::new();
-    fn extend(
-        comparer: &mut Comparer,
-        random: &mut Random,
-        tokens: &[Vec<u8>],
-        image: &mut Vec<u8>,
-        ends: &mut Vec<usize>,
-        depth: usize,
-    ) -> Result<(), Failure> {
-        compare(comparer, random, image, 256)?;
-        if depth == 0 {
-            return Ok(());
-        }
-        for token in tokens {
-            ends.push(image.len());
-            image.extend_from_slice(token);
-            extend(comparer, random, tokens, image, ends, depth - 1)?;
-            if let Some(end) = ends.pop() {
-                image.truncate(end);
-            }
-        }
-        Ok(())
-    }
-    extend(comparer, random, &tokens, &mut image, &mut ends, depth)?;
+    every_sequence(comparer, random, &tokens, &mut Vec::new(), &[], depth)?;
     Ok(comparer.images - before)
+}
+
+/// Every sequence of at most `depth` tokens, between `image` and `end`.
+pub fn every_sequence(
+    comparer: &mut Comparer,
+    random: &mut Random,
+    tokens: &[Vec<u8>],
+    image: &mut Vec<u8>,
+    end: &[u8],
+    depth: usize,
+) -> Result<(), Failure> {
+    let length = image.len();
+    image.extend_from_slice(end);
+    compare(comparer, random, image, 256)?;
+    image.truncate(length);
+    if depth == 0 {
+        return Ok(());
+    }
+    for token in tokens {
+        image.extend_from_slice(token);
+        every_sequence(comparer, random, tokens, image, end, depth - 1)?;
+        image.truncate(length);
+    }
+    Ok(())
 }
 
 /// Numbers of every length in the listing's lines: rings, segments, words, counts.
@@ -251,9 +278,14 @@ pub fn numbers(comparer: &mut Comparer, random: &mut Random) -> Result<u64, Fail
     Ok(comparer.images - before)
 }
 
-/// Makes a failing image smaller while it still fails: fewer bytes, then more zeros.
-pub fn shrink(comparer: &mut Comparer, mut image: Vec<u8>, length: usize) -> Vec<u8> {
+/// Makes a failing image smaller while it still fails: fewer records, fewer bytes, then more zeros.
+pub fn shrink(comparer: &mut Comparer, image: Vec<u8>, length: usize) -> Vec<u8> {
     let mut fails = |image: &[u8]| comparer.image(image, length, 0xee).is_err();
+    let mut image = fewer_records(image, &mut fails);
+    // With so many records left, going by bytes takes too long.
+    if image.len() > 5_000 {
+        return image;
+    }
     let mut size = image.len();
     while size > 0 {
         let mut place = 0;
@@ -277,4 +309,25 @@ pub fn shrink(comparer: &mut Comparer, mut image: Vec<u8>, length: usize) -> Vec
         }
     }
     image
+}
+
+/// Leaves out records while the image still fails, many at a time and then fewer.
+fn fewer_records(image: Vec<u8>, fails: &mut dyn FnMut(&[u8]) -> bool) -> Vec<u8> {
+    let mut records: Vec<&[u8]> = second::image::records(&image).map(|(_, bytes)| bytes).collect();
+    let whole: usize = records.iter().map(|record| record.len()).sum();
+    records.push(&image[whole..]);
+    let mut size = records.len();
+    while size > 0 {
+        let mut place = 0;
+        while place + size <= records.len() {
+            let fewer = [&records[..place], &records[place + size..]].concat();
+            if fails(&fewer.concat()) {
+                records = fewer;
+            } else {
+                place += size;
+            }
+        }
+        size /= 2;
+    }
+    records.concat()
 }

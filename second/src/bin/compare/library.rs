@@ -53,6 +53,7 @@ extern "C" {
     fn kuzhlemor_step(registers: *mut CRegisters, memory: *mut u64, words: usize) -> CReply;
     fn kuzhlemor_run(registers: *mut CRegisters, memory: *mut u64, words: usize, budget: u32) -> CReply;
     fn kuzhlemor_bench(image: *const u8, image_length: usize, text: *mut u8, text_length: usize) -> i64;
+    fn kuzhlemor_convert(image: *mut u8, image_length: usize) -> i64;
 }
 
 /// A reply as the library gives it; it may be one that no `Reply` is.
@@ -179,4 +180,10 @@ impl Lent {
 pub fn bench(image: &[u8], text: &mut [u8]) -> i64 {
     // SAFETY: two runs of bytes, the second lent alone for the call.
     unsafe { kuzhlemor_bench(image.as_ptr(), image.len(), text.as_mut_ptr(), text.len()) }
+}
+
+/// The conversion of a stored image, in place.
+pub fn convert(image: &mut [u8]) -> i64 {
+    // SAFETY: a run of bytes, lent alone for the call.
+    unsafe { kuzhlemor_convert(image.as_mut_ptr(), image.len()) }
 }

@@ -10,6 +10,7 @@ mod kept;
 mod library;
 mod random;
 mod reach;
+mod repeats;
 mod secrecy;
 
 use std::path::Path;
@@ -31,6 +32,9 @@ struct Plan {
     pairs: u64,
     images: u64,
     damaged: u64,
+    /// Images with few addresses, and images of thousands of records.
+    few: u64,
+    large: u64,
     depth: usize,
 }
 
@@ -40,9 +44,17 @@ fn main() -> ExitCode {
     let arguments: Vec<String> = std::env::args().skip(1).collect();
     let number = |place: usize| arguments.get(place).and_then(|number| number.replace([',', '_'], "").parse().ok());
     let plan = match (arguments.first().map(String::as_str), arguments.len()) {
-        (Some("quick"), 1) => {
-            Plan { seed: 1, grids: 3, machines: 3_000_000, pairs: 500_000, images: 100_000, damaged: 60, depth: 4 }
-        }
+        (Some("quick"), 1) => Plan {
+            seed: 1,
+            grids: 3,
+            machines: 3_000_000,
+            pairs: 500_000,
+            images: 100_000,
+            damaged: 60,
+            few: 100_000,
+            large: 400,
+            depth: 4,
+        },
         (Some("long"), 2 | 3) => match (number(1), number(2)) {
             (Some(many), seed) if arguments.len() == 2 || seed.is_some() => Plan {
                 seed: seed.unwrap_or(1),
@@ -51,6 +63,8 @@ fn main() -> ExitCode {
                 pairs: many / 10,
                 images: many,
                 damaged: 60,
+                few: many / 5,
+                large: 2_000,
                 depth: 5,
             },
             _ => {
@@ -90,6 +104,11 @@ fn carry_out(plan: &Plan) -> Result<(), String> {
 
     let count = directed::cases(&mut comparer).map_err(|failure| machine_differs(plan, *failure))?;
     clock.part(&format!("directed: {count} machines with the reply that 01 gives"));
+
+    let count = repeats::directed(&mut comparer).map_err(|(name, (image, length, difference))| {
+        image_differs(plan, &mut Comparer::new(), name, image, length, difference)
+    })?;
+    clock.part(&format!("directed: {count} images for 51 and the conversion, with the answers that 02 gives"));
 
     kept_inputs(plan, &mut comparer, &mut clock)?;
 
@@ -161,7 +180,8 @@ fn kept_inputs(plan: &Plan, comparer: &mut Comparer, clock: &mut Clock) -> Resul
             }
             Input::Image { image, text_length } => {
                 if let Err(difference) = comparer.image(&image, text_length, 0xa5) {
-                    return Err(image_differs(plan, comparer, image, text_length, difference));
+                    let name = format!("kept input {name}");
+                    return Err(image_differs(plan, comparer, &name, image, text_length, difference));
                 }
             }
         }
@@ -178,7 +198,7 @@ fn all_images(
 ) -> Result<(), String> {
     let random = &mut Random::new(plan.seed.rotate_left(32));
     let differs = |comparer: &mut Comparer, (image, length, difference): images::Failure| {
-        image_differs(plan, comparer, image, length, difference)
+        image_differs(plan, comparer, "an image", image, length, difference)
     };
     let mut draw = |random: &mut Random, most: u32| {
         let mut machine = Machine::default();
@@ -189,6 +209,20 @@ fn all_images(
     };
     let count = images::sequences(comparer, random, plan.depth).map_err(|failure| differs(comparer, failure))?;
     clock.part(&format!("images: {count}, every sequence of at most {} records", plan.depth));
+
+    let depth = plan.depth + 2;
+    let count = repeats::sequences(comparer, random, depth).map_err(|failure| differs(comparer, failure))?;
+    clock.part(&format!("images: {count}, every sequence of at most {depth} ST and WD over three addresses"));
+
+    for _ in 0..plan.few {
+        repeats::few(comparer, random).map_err(|failure| differs(comparer, failure))?;
+    }
+    clock.part(&format!("images: {}, up to 40 WDs over few addresses", plan.few));
+
+    for _ in 0..plan.large {
+        repeats::many(comparer, random).map_err(|failure| differs(comparer, failure))?;
+    }
+    clock.part(&format!("images: {}, thousands of WDs", plan.large));
 
     let count = images::numbers(comparer, random).map_err(|failure| differs(comparer, failure))?;
     clock.part(&format!("images: {count}, numbers of every length"));
@@ -251,18 +285,20 @@ fn leaks(plan: &Plan, (difference, n, one, two): Leak) -> String {
 fn image_differs(
     plan: &Plan,
     comparer: &mut Comparer,
+    name: &str,
     image: Vec<u8>,
     length: usize,
     first: compare::Difference,
 ) -> String {
     let smaller = images::shrink(comparer, image, length);
     let difference = comparer.image(&smaller, length, 0xee).err().unwrap_or(first);
-    let mut text = format!("compare: DIFFERENT, in an image of {} bytes, below\n{}", smaller.len(), difference.0);
-    match second::read_image(&smaller) {
-        Ok(second::Image { registers, memory, budget }) => {
-            text += &format!("\n{}", describe::describe(&Machine { registers, memory, budget }));
-        }
-        Err(number) => text += &format!("\nsecond refuses it: {number}"),
+    let mut text = format!("compare: DIFFERENT, in {name}, of {} bytes below\n{}", smaller.len(), difference.0);
+    if let Err(number) = second::read_image(&smaller) {
+        text += &format!("\nsecond refuses it: {number}");
+    }
+    text += &format!("\n{}", describe::records(&smaller));
+    if let Ok(second::Image { registers, memory, budget }) = second::read_stored_image(&smaller) {
+        text += &format!("\n{}", describe::describe(&Machine { registers, memory, budget }));
     }
     write_out(&format!("failing-{}", plan.seed), &[("", smaller)], text)
 }

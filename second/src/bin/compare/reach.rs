@@ -3,13 +3,14 @@
 use std::collections::BTreeMap;
 
 use crate::compare::Machine;
+use second::image::{self, Record};
 use second::{Fault, Opcode, Pointer, Registers, Reply};
 
 /// The questions of a machine, and those of an image: a memory of at most 8,192 words has no 1.
 pub const QUESTIONS: [u8; 23] =
     [1, 2, 3, 4, 11, 12, 13, 14, 15, 21, 22, 23, 24, 25, 26, 27, 28, 29, 30, 31, 32, 33, 34];
-pub const IMAGE_QUESTIONS: [u8; 27] =
-    [41, 42, 43, 44, 2, 3, 4, 45, 11, 12, 13, 14, 15, 21, 22, 23, 24, 25, 26, 27, 28, 29, 30, 31, 32, 33, 34];
+pub const IMAGE_QUESTIONS: [u8; 28] =
+    [41, 42, 43, 44, 51, 2, 3, 4, 45, 11, 12, 13, 14, 15, 21, 22, 23, 24, 25, 26, 27, 28, 29, 30, 31, 32, 33, 34];
 
 /// How runs ended, and how far they went.
 #[derive(Default)]
@@ -65,11 +66,90 @@ impl Runs {
     }
 }
 
+/// The questions of a stored image.
+const STORED_QUESTIONS: [u8; 7] = [41, 42, 43, 44, 2, 3, 4];
+
+/// How conversions went, and what the images were like of which something was dropped.
+#[derive(Default)]
+struct Conversions {
+    refused: BTreeMap<u8, u64>,
+    unchanged: u64,
+    dropped: u64,
+    /// ST stood between two WDs of an address.
+    st_between: u64,
+    /// An address had three WDs or more.
+    three: u64,
+    /// Two WDs of an address were equal.
+    equal: u64,
+    /// The addresses of the WDs kept don't go up.
+    in_no_order: u64,
+    /// There were 1,000 records or more.
+    long: u64,
+    /// What came out was run.
+    listed: u64,
+}
+
+impl Conversions {
+    /// An image of which the second of these is left.
+    fn dropped(&mut self, old: &[u8], new: &[u8]) {
+        self.dropped += 1;
+        // By address: how many, how many of them before ST, and the first word.
+        let mut seen: Vec<(u32, u32, u64)> = Vec::new();
+        let (mut records, mut st, mut st_between, mut three, mut equal) = (0, false, false, false, false);
+        for (record, _) in image::records(old) {
+            records += 1;
+            match record {
+                Record::Me { words } => seen.resize(words as usize, (0, 0, 0)),
+                Record::St { .. } => st = true,
+                Record::Wd { address, word } => {
+                    let (count, before_st, first) = &mut seen[address as usize];
+                    if *count == 0 {
+                        *first = word;
+                    }
+                    equal |= *count > 0 && *first == word;
+                    three |= *count > 1;
+                    st_between |= st && *before_st > 0;
+                    *count += 1;
+                    *before_st += u32::from(!st);
+                }
+                Record::Rn { .. } => {}
+            }
+        }
+        let kept = image::records(new).filter_map(|(record, _)| match record {
+            Record::Wd { address, .. } => Some(address),
+            _ => None,
+        });
+        self.st_between += u64::from(st_between);
+        self.three += u64::from(three);
+        self.equal += u64::from(equal);
+        self.in_no_order += u64::from(!kept.is_sorted());
+        self.long += u64::from(records >= 1000);
+    }
+
+    fn print(&self, missed: &mut Vec<String>) {
+        let refused = STORED_QUESTIONS
+            .iter()
+            .map(|number| (format!("refused {number}"), self.refused.get(number).copied().unwrap_or(0)));
+        let others = [
+            ("unchanged", self.unchanged),
+            ("something dropped", self.dropped),
+            ("ST between two of an address", self.st_between),
+            ("three of an address", self.three),
+            ("two equal", self.equal),
+            ("kept in no order of addresses", self.in_no_order),
+            ("of 1,000 records", self.long),
+            ("run after it", self.listed),
+        ];
+        print_row(refused.chain(others.map(|(name, count)| (name.to_string(), count))), missed);
+    }
+}
+
 pub struct Reach {
     steps: u64,
     completed: [u64; 256],
     machines: Runs,
     images: Runs,
+    conversions: Conversions,
     changed_memory: u64,
     changed_descriptors: u64,
     changed_dbr: u64,
@@ -82,6 +162,7 @@ impl Reach {
             completed: [0; 256],
             machines: Runs::default(),
             images: Runs::default(),
+            conversions: Conversions::default(),
             changed_memory: 0,
             changed_descriptors: 0,
             changed_dbr: 0,
@@ -117,6 +198,19 @@ impl Reach {
         self.images.ended(reply);
     }
 
+    pub fn conversion(&mut self, old: &[u8], result: &Result<Vec<u8>, u8>) {
+        match result {
+            Err(number) => *self.conversions.refused.entry(*number).or_default() += 1,
+            Ok(new) if new.len() < old.len() => self.conversions.dropped(old, new),
+            Ok(_) => self.conversions.unchanged += 1,
+        }
+    }
+
+    /// What a conversion gave was run.
+    pub fn listed(&mut self) {
+        self.conversions.listed += 1;
+    }
+
     /// Prints the tables; answers what was never reached.
     pub fn print(&self) -> Vec<String> {
         let mut missed = Vec::new();
@@ -133,6 +227,8 @@ impl Reach {
         );
         println!("images, by the question answered no:");
         self.images.print(&IMAGE_QUESTIONS, &mut missed);
+        println!("conversions of the same images:");
+        self.conversions.print(&mut missed);
         missed
     }
 }

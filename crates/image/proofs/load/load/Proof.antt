@@ -3,30 +3,31 @@ use Prim.Native.Nat.{_-_}
 use native.Mathlib.Omega.{arith}
 use lib.ListN.{length}
 use borrow.Author.Needs.{needs}
-use Rattle.image.proofs.LoadLaws.{Loaded-so-far, next-in-bytes, next-less, one-more, loads}
+use Rattle.image.specs.Load.{Loaded-so-far}
+use Rattle.image.proofs.LoadLaws.{next-in-bytes, next-less, one-more, loads}
 use Rattle.image.proofs.load.load.Statement.{statement}
 use Rattle.image.proofs.load.load.Tie as tie
 
 abbrev Inv-loop : tie.InvT-loop
-Inv-loop memory₀ bytes ended x₀ at₀ memory x at = Loaded-so-far (x₀ .loading) memory₀ bytes ended at (x .loading) memory
+Inv-loop store₀ bytes ended x₀ at₀ store x at = Loaded-so-far (x₀ .loading) store₀ bytes ended at (x .loading) store
 
 abbrev μ-loop : tie.MeasureT-loop
-μ-loop memory₀ bytes ended x₀ at₀ memory x at = length bytes - at
+μ-loop store₀ bytes ended x₀ at₀ store x at = length bytes - at
 
 loop-holds : tie.Need-loop-holds Inv-loop μ-loop
 loop-holds c = search (needs, loads)
 
-sub-load-record : tie.Need-sub-load-record Inv-loop μ-loop
-sub-load-record c = search (needs, loads)
+sub-load-next : tie.Need-sub-load-next Inv-loop μ-loop
+sub-load-next c = search (needs, loads)
 
-part-load-record-start : tie.Need-part-load-record-start Inv-loop μ-loop
-part-load-record-start c = search (needs, loads)
+part-load-next-start : tie.Need-part-load-next-start Inv-loop μ-loop
+part-load-next-start c = search (needs, loads)
 
-part-load-record-end : tie.Need-part-load-record-end Inv-loop μ-loop
-part-load-record-end c = search (needs, loads)
+part-load-next-end : tie.Need-part-load-next-end Inv-loop μ-loop
+part-load-next-end c = search (needs, loads)
 
-load-record-requires : tie.Need-load-record-requires Inv-loop μ-loop
-load-record-requires c κs = search (needs, loads)
+load-next-requires : tie.Need-load-next-requires Inv-loop μ-loop
+load-next-requires c κs = search (needs, loads)
 
 enum-known-outcome : tie.Need-enum-known-outcome Inv-loop μ-loop
 enum-known-outcome c = search (needs, loads)
@@ -44,19 +45,19 @@ same-length-2 : tie.Need-same-length-2 Inv-loop μ-loop
 same-length-2 c = search (needs, loads)
 
 returns-2 : tie.Need-returns-2 Inv-loop μ-loop
-returns-2 c = search (loads, c .before .before .before .before .before .load-record .ensures, c .before .before .before .before .before .before .before .before .loop .inv, c .before .enum-told .given)
+returns-2 c = search (loads, c .before .before .before .before .before .load-next .ensures, c .before .before .before .before .before .before .before .before .loop .inv, c .before .enum-told .given)
 
 enum-known-outcome-2 : tie.Need-enum-known-outcome-2 Inv-loop μ-loop
 enum-known-outcome-2 c = search (needs, loads)
 
 add-at : tie.Need-add-at Inv-loop μ-loop
-add-at c = let y = next-in-bytes (c .before .before .before .before .before .before .before .before .loop .inv) (c .before .before .before .before .before .load-record .ensures) (c .before .outcome2 .given .1) in omega arith
+add-at c = let y = next-in-bytes (c .before .before .before .before .before .before .before .before .loop .inv) (c .before .before .before .before .before .load-next .ensures) (c .before .outcome2 .given .1) in omega arith
 
 loop-less : tie.Need-loop-less Inv-loop μ-loop
-loop-less c = next-less (c .before .before .before .before .before .before .before .before .loop .inv) (c .before .before .before .before .before .load-record .ensures) (c .before .outcome2 .given .1)
+loop-less c = next-less (c .before .before .before .before .before .before .before .before .loop .inv) (c .before .before .before .before .before .load-next .ensures) (c .before .outcome2 .given .1)
 
 loop-again : tie.Need-loop-again Inv-loop μ-loop
-loop-again c = one-more (c .before .before .before .before .before .before .before .before .loop .inv) (c .before .before .before .before .before .load-record .ensures) (c .before .outcome2 .given .1)
+loop-again c = one-more (c .before .before .before .before .before .before .before .before .loop .inv) (c .before .before .before .before .before .load-next .ensures) (c .before .outcome2 .given .1)
 
 enum-known-outcome-3 : tie.Need-enum-known-outcome-3 Inv-loop μ-loop
 enum-known-outcome-3 c = search (needs, loads)
@@ -74,10 +75,10 @@ load-spec =
     Inv-loop
     μ-loop
     loop-holds
-    sub-load-record
-    part-load-record-start
-    part-load-record-end
-    load-record-requires
+    sub-load-next
+    part-load-next-start
+    part-load-next-end
+    load-next-requires
     enum-known-outcome
     same-length
     returns

@@ -19,11 +19,11 @@ enum-known-outcome c = search needs
 enum-known-outcome-2 : tie.Need-enum-known-outcome-2
 enum-known-outcome-2 c = search needs
 
-keep-requires : tie.Need-keep-requires
-keep-requires c κs = search (needs, pieces)
+sub-kept : tie.Need-sub-kept
+sub-kept c = search (needs, pieces)
 
-sub-t20 : tie.Need-sub-t20
-sub-t20 c = search (needs, pieces)
+move-down-requires : tie.Need-move-down-requires
+move-down-requires c κs = search (needs, pieces)
 
 enum-known-outcome-3 : tie.Need-enum-known-outcome-3
 enum-known-outcome-3 c = search needs
@@ -64,8 +64,8 @@ load-piece-spec =
     load-requires
     enum-known-outcome
     enum-known-outcome-2
-    keep-requires
-    sub-t20
+    sub-kept
+    move-down-requires
     enum-known-outcome-3
     same-length
     same-length-2

@@ -54,7 +54,7 @@ same-length : tie.Need-same-length
 same-length c = search needs
 
 returns-4 : tie.Need-returns-4
-returns-4 c = search (needs, c .before .before .load-word .ensures)
+returns-4 c = search (needs, c .before .before .load-word .ensures .recorded)
 
 returns-5 : tie.Need-returns-5
 returns-5 c = search (needs, c .load-run .ensures)

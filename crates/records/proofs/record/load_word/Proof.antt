@@ -1,40 +1,50 @@
 -- `record::load_word` meets its contract. Assumes nothing.
+use mathlib.Core.Path.{refl}
 use borrow.Author.Needs.{needs}
-use Rattle.records.proofs.RecordLaws.{address-within, word-loaded}
-use borrow.Author.Tests.{not-false}
 use Rattle.records.specs.Record.{Outcome-within}
+use Rattle.records.proofs.RecordLaws.{word-loaded}
 use Rattle.records.proofs.record.load_word.Statement.{statement}
 use Rattle.records.proofs.record.load_word.Tie as tie
 
 returns : tie.Need-returns
 unfolding Outcome-within
-returns c = λ e. search (needs, word-loaded)
+returns c = record { loading-same = refl; recorded = λ e. search (needs, word-loaded) }
 
 number-4-requires : tie.Need-number-4-requires
 number-4-requires c κs = search needs
 
 returns-2 : tie.Need-returns-2
 unfolding Outcome-within
-returns-2 c = λ e. search (needs, word-loaded)
+returns-2 c = record { loading-same = refl; recorded = λ e. search (needs, word-loaded) }
 
 cast-i : tie.Need-cast-i
 cast-i c = search needs
 
-number-8-requires : tie.Need-number-8-requires
-number-8-requires c κs = search needs
-
-mul-memory : tie.Need-mul-memory
-mul-memory c = search needs
-
-slice-write-memory : tie.Need-slice-write-memory
-slice-write-memory c = search (address-within, not-false)
+may-write-requires : tie.Need-may-write-requires
+may-write-requires c κs = search (needs, word-loaded)
 
 same-length : tie.Need-same-length
 same-length c = search needs
 
 returns-3 : tie.Need-returns-3
 unfolding Outcome-within
-returns-3 c = λ e. search (needs, word-loaded)
+returns-3 c = record { loading-same = refl; recorded = λ e. search (needs, word-loaded) }
+
+number-8-requires : tie.Need-number-8-requires
+number-8-requires c κs = search needs
+
+mul-store : tie.Need-mul-store
+mul-store c = search needs
+
+slice-write-store : tie.Need-slice-write-store
+slice-write-store c = search word-loaded
+
+same-length-2 : tie.Need-same-length-2
+same-length-2 c = search needs
+
+returns-4 : tie.Need-returns-4
+unfolding Outcome-within
+returns-4 c = record { loading-same = refl; recorded = λ e. search (needs, word-loaded) }
 
 pub load-word-spec : {M : Type 1} → statement M
 load-word-spec =
@@ -44,8 +54,11 @@ load-word-spec =
     number-4-requires
     returns-2
     cast-i
-    number-8-requires
-    mul-memory
-    slice-write-memory
+    may-write-requires
     same-length
-    returns-3)
+    returns-3
+    number-8-requires
+    mul-store
+    slice-write-store
+    same-length-2
+    returns-4)

@@ -1,0 +1,4 @@
+-- Laws of this crate. Assumes nothing.
+pub mod FrontLaws
+pub mod LastLaws
+pub mod CompactLaws

@@ -1,0 +1,12 @@
+-- A buffer whose front was compacted. Assumes nothing: these are definitions.
+use mathlib.Core.Path.{_≡_}
+use mathlib.Core.List.{List, _++_}
+use Prim.Native.Nat.{ℕ, _≤_}
+use lib.ListN.{length, take, drop}
+use Rattle.model.specs.Convert.{compacted}
+
+-- what comes after the n bytes that are left is as it was
+pub record Compacted (end : ℕ) (entry : List ℕ) (n : ℕ) (exit : List ℕ) : Type 0 where
+  pub size : n ≡ length (compacted (take end entry))
+  pub shorter : n ≤ end
+  pub bytes : exit ≡ compacted (take end entry) ++ drop n entry

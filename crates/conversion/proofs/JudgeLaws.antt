@@ -1,0 +1,27 @@
+-- 1 to 4 of what an image recorded. Assumes nothing.
+use mathlib.Core.Path.{_≡_, sym, _∙_, ap}
+use mathlib.Core.Bool.{true}
+use mathlib.Core.List.{List}
+use Prim.Native.Nat.{ℕ, _≤_}
+use lib.ListN.{length, take}
+use lib.Seq.{length-take-le}
+use Rattle.model.specs.Questions.{start-questions}
+use Rattle.model.specs.Image as Image
+use Rattle.machine.specs.declared.Prepared.{Prepared}
+use Rattle.machine.specs.Answered.{Prepared-as}
+use Rattle.records.specs.declared.loading.Loading.{Loading}
+use Rattle.records.specs.View.{as-loading, Loading-within}
+use Rattle.image.proofs.LoadLaws.{words-within, loaded-machine}
+
+module _ (l : Loading) (m : List ℕ) (w : Loading-within l m) (h : l .«has_memory» ≡ true) where
+  pub memory-part : l .words ≤ length m
+  memory-part = words-within l m w h
+
+  pub memory-part-size : l .words ≡ length (take (l .words) m)
+  memory-part-size = sym (length-take-le (l .words) m memory-part)
+
+  pub judged-by : l .«has_registers» ≡ true → (x : Prepared) (m-now : List ℕ) → Prepared-as (l .registers) (take (l .words) m) x m-now →
+      x .number ≡ start-questions (Image.machine-of (as-loading l m))
+  judged-by g x m-now p = p .asked ∙ ap start-questions (sym (loaded-machine l m h g))
+
+pub ruleset judges = (memory-part, memory-part-size, judged-by)

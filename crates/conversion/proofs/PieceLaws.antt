@@ -1,0 +1,199 @@
+-- A piece of a stored image: a law for each outcome, and what they say of `convert`. Assumes nothing.
+use mathlib.Core.Path.{_≡_, refl, sym, _∙_, ap, ap₂}
+use mathlib.Core.Bool.{Bool, true}
+use mathlib.Core.List.{List, [], _∷_, _++_, append-assoc, append-nil}
+use Prim.Native.Nat.{ℕ, zero, suc, _+_, _-_, _≤_, _<_, _^_}
+use native.Mathlib.Omega.{arith}
+use lib.ListN.{length, take, drop, length-append, length-drop}
+use lib.Seq.{take-at, drop-at, take-take, drop-append-add, length-take-le, drop-drop, take-add, take-nil, drop-nil}
+use mir.Syntax.{w64}
+use mir.Val.{Fits}
+use Rattle.model.specs.Questions.{start-questions}
+use Rattle.model.specs.Image as Image
+use Rattle.model.specs.Convert.{compacted, convert-on, convert-after}
+use Rattle.model.proofs.ImageLaws.{checked-refused, checked-passed}
+use Rattle.model.proofs.LastLaws.{compacted-early}
+use Rattle.records.specs.declared.loading.Loading.{Loading}
+use Rattle.records.specs.View.{as-loading, Loading-within}
+use Rattle.records.specs.Record.{Goes, outcome-image}
+use Rattle.records.proofs.RecordLaws.{within-still}
+use Rattle.image.specs.declared.load.LoadOutcome.the-variants as Load
+use Rattle.image.specs.declared.load.Loaded.{Loaded}
+use Rattle.image.specs.Load.{Loaded-as}
+use Rattle.buffers.specs.Move.{moved-down}
+use Rattle.buffers.proofs.MoveLaws.{length-moved, take-moved}
+use Rattle.compaction.specs.Compacted.{Compacted}
+use Rattle.conversion.specs.declared.ConvertOutcome.{ConvertOutcome}
+use Rattle.conversion.specs.declared.ConvertOutcome.the-variants.{Refused, More, Ready}
+use Rattle.conversion.specs.Piece.{waiting, Judged-as, Piece-judged, Buffer-after, Piece-within, Piece-converted, convert-by, Pieces-convert, Room-made}
+
+-- BYTES THAT WAIT
+drop-take : {A : Type 0} (a b : ℕ) (xs : List A) → drop a (take b xs) ≡ take (b - a) (drop a xs)
+drop-take zero b xs = ap (λ n. take n xs) (let e : b ≡ b - 0 = omega arith in e)
+drop-take (suc a) zero xs = drop-nil (suc a) ∙ sym (ap (λ n. take n (drop (suc a) xs)) (let e : 0 - suc a ≡ 0 = omega arith in e))
+drop-take (suc a) (suc b) [] = sym (take-nil (suc b - suc a))
+drop-take (suc a) (suc b) (x ∷ xs) = drop-take a b xs ∙ ap (λ n. take n (drop a xs)) (let e : b - a ≡ suc b - suc a = omega arith in e)
+
+module _ (l : Loading) (m t : List ℕ) (kept size : ℕ) (e : Bool) (x : Loaded) (m-now : List ℕ)
+    (w : Loaded-as l m (waiting kept size t) e x m-now) (h : kept ≤ size) (room : size ≤ length t) where
+  waiting-size : length (waiting kept size t) ≡ size - kept
+  waiting-size = length-take-le (size - kept) (drop kept t) (let z = length-drop kept t in omega arith)
+
+  pub piece-refused : (n : ℕ) → x .outcome ≡ Load.Refused n →
+      Piece-converted l m t kept size e (record { loading = x .loading; outcome = Refused n }) m-now t
+  unfolding Piece-judged Judged-as Buffer-after Piece-within Goes outcome-image
+  piece-refused n o =
+      record {
+        within = w .within;
+        judged = λ rest z. w .goes rest z ∙ rw o;
+        buffer-after = refl;
+        outcome-within = rw o at (w .outcome-within);
+      }
+
+  module _ (used : ℕ) (o : x .outcome ≡ Load.More used) where
+    used-within : used ≤ size - kept
+    used-within = let q = (rw o at (w .outcome-within)) .1 in omega (arith, waiting-size)
+
+    pub loaded-fits : size < 2 ^ 64 → Fits w64 (kept + used)
+    loaded-fits f = record { fits = let y = used-within in omega arith }
+
+    still-waiting : drop used (waiting kept size t) ≡ waiting (kept + used) size t
+    still-waiting =
+        drop-take used (size - kept) (drop kept t)
+        ∙ ap₂ (λ n ys. take n ys) (let q : size - kept - used ≡ size - (kept + used) = omega arith in q) (drop-drop used kept t)
+
+    pub piece-more : Piece-converted l m t kept size e (record { loading = x .loading; outcome = More (kept + used) }) m-now t
+    unfolding Piece-judged Judged-as Buffer-after Piece-within Goes outcome-image
+    piece-more =
+        record {
+          within = w .within;
+          judged = λ rest z. w .goes rest z ∙ rw o (ap (λ ys. Image.image-after (as-loading (x .loading) m-now) (ys ++ rest)) still-waiting);
+          buffer-after = refl;
+          outcome-within =
+              let q = rw o at (w .outcome-within) in
+              (q .0, omega arith, let y = used-within in omega arith, let r = q .2 in let y = used-within in omega (arith, waiting-size));
+        }
+
+  -- once RN has come, ME and ST have, and 1 to 4 are asked
+  module _ (b : ℕ) (o : x .outcome ≡ Load.Ready b) where
+    pub ready-memory : x .loading .«has_memory» ≡ true
+    ready-memory = (rw o at (w .outcome-within)) .1
+
+    pub ready-registers : x .loading .«has_registers» ≡ true
+    ready-registers = (rw o at (w .outcome-within)) .2
+
+    module _ (m-judged : List ℕ) (l-judged : length m-judged ≡ length m-now) (n : ℕ)
+        (asked : n ≡ start-questions (Image.machine-of (as-loading (x .loading) m-now))) where
+      within-judged : Loading-within (x .loading) m-judged
+      within-judged =
+          record {
+            sized = l-judged ∙ w .within .sized;
+            memory-within = within-still (x .loading .«has_memory») (x .loading .words) m-now (w .within .memory-within) ready-memory m-judged;
+          }
+
+      whole : (rest : List ℕ) → (e ≡ true → rest ≡ []) →
+          Image.image-after (as-loading l m) (waiting kept size t ++ rest) ≡ Image.checked (Image.machine-of (as-loading (x .loading) m-now)) b
+      unfolding Goes outcome-image
+      whole rest z = w .goes rest z ∙ rw o
+
+      pub piece-judged-no : (n ≡ 0 → ⊥) → Piece-converted l m t kept size e (record { loading = x .loading; outcome = Refused n }) m-judged t
+      unfolding Piece-judged Judged-as Buffer-after Piece-within
+      piece-judged-no f =
+          record {
+            within = within-judged;
+            judged = λ rest z. whole rest z ∙ checked-refused _ b n asked f;
+            buffer-after = refl;
+            outcome-within = omega arith;
+          }
+
+      pub piece-ready : n ≡ 0 → (k : ℕ) (u : List ℕ) → Compacted size t k u →
+          Piece-converted l m t kept size e (record { loading = x .loading; outcome = Ready k }) m-judged u
+      unfolding Piece-judged Judged-as Buffer-after Piece-within
+      piece-ready f k u c =
+          record {
+            within = within-judged;
+            judged = λ rest z. (Image.machine-of (as-loading (x .loading) m-now), (b, whole rest z ∙ checked-passed _ b n asked f));
+            buffer-after = c;
+            outcome-within = (rw o at (w .outcome-within)) .0;
+          }
+
+pub ruleset pieces = (piece-refused, loaded-fits, piece-more, ready-memory, ready-registers, piece-judged-no, piece-ready)
+
+-- ROOM: dropping early changes nothing, and what waits follows
+module _ (kept size : ℕ) (t : List ℕ) (h : kept ≤ size) (room : size ≤ length t) (n : ℕ) (v : List ℕ) (c : Compacted kept t n v) where
+  front : take n v ≡ compacted (take kept t)
+  front = ap (take n) (c .bytes) ∙ take-at (compacted (take kept t)) (drop n t) n (sym (c .size))
+
+  pub compacted-length : length v ≡ length t
+  compacted-length =
+      let z = length-append (compacted (take kept t)) (drop n t) in
+      let y = length-drop n t in
+      ap length (c .bytes) ∙ z ∙ (let s = c .size in let q = c .shorter in let g : length (compacted (take kept t)) + length (drop n t) ≡ length t = omega arith in g)
+
+  pub room-to-move : (n ≤ kept) × (kept + (size - kept) ≤ length v)
+  room-to-move = (c .shorter, let z = compacted-length in omega arith)
+
+  rest-same : drop kept v ≡ drop kept t
+  rest-same =
+      let new = compacted (take kept t) in
+      let s = c .size in
+      let q = c .shorter in
+      ap (drop kept) (c .bytes) ∙ ap (λ k. drop k (new ++ drop n t)) (let g : kept ≡ length new + (kept - n) = omega arith in g)
+      ∙ drop-append-add new (drop n t) (kept - n) ∙ drop-drop (kept - n) n t ∙ ap (λ k. drop k t) (let g : n + (kept - n) ≡ kept = omega arith in g)
+
+  module _ (u : List ℕ) (e : u ≡ moved-down kept n (size - kept) v) where
+    moved : take (n + (size - kept)) u ≡ take n v ++ take (size - kept) (drop kept v)
+    moved = ap (take (n + (size - kept))) e ∙ take-moved v kept n (size - kept) (room-to-move .0) (room-to-move .1)
+
+    front-size : length (take n v) ≡ n
+    front-size = length-take-le n v (let z = compacted-length in let q = c .shorter in omega arith)
+
+    front-now : take n u ≡ compacted (take kept t)
+    front-now =
+        sym (take-take n (n + (size - kept)) u (omega arith)) ∙ ap (take n) moved ∙ take-at (take n v) (take (size - kept) (drop kept v)) n front-size ∙ front
+
+    same-on : (i : Image.Image) (bs : List ℕ) → convert-on i (take n u ++ bs) ≡ convert-on i (take kept t ++ bs)
+    unfolding convert-on
+    same-on (Image.refused-image k) bs = refl
+    same-on (Image.loaded m b) bs = ap (λ xs. compacted (xs ++ bs)) front-now ∙ compacted-early (take kept t) bs
+
+    pub room-made : Room-made kept size t n u
+    unfolding convert-after
+    room-made =
+        record {
+          converts-same = λ l bs. same-on (Image.image-after l bs) bs;
+          waiting-same =
+              sym (drop-take n (n + (size - kept)) u) ∙ ap (drop n) moved ∙ drop-at (take n v) (take (size - kept) (drop kept v)) n front-size
+              ∙ ap (take (size - kept)) rest-same;
+          shorter = c .shorter;
+          size-same = ap length e ∙ length-moved v kept n (size - kept) (room-to-move .0) (room-to-move .1) ∙ compacted-length;
+        }
+
+pub ruleset rooms = (room-to-move, room-made)
+
+-- WHAT `convert` GIVES, by the outcome of a piece
+parts-join : (k size : ℕ) (t rest : List ℕ) → k ≤ size → take k t ++ (waiting k size t ++ rest) ≡ take size t ++ rest
+parts-join k size t rest h =
+    sym (append-assoc (take k t) (waiting k size t) rest)
+    ∙ ap (λ xs. xs ++ rest) (sym (take-add k (size - k) t) ∙ ap (λ n. take n t) (let e : k + (size - k) ≡ size = omega arith in e))
+
+module _ (l : Image.Loading) (t : List ℕ) (kept size : ℕ) (e : Bool) (k : Image.Loading) (u : List ℕ) (h : kept ≤ size) (room : size ≤ length t)
+    (rest : List ℕ) (z : e ≡ true → rest ≡ []) where
+  abbrev given : List ℕ
+  given = waiting kept size t ++ rest
+
+  by-outcome : (o : ConvertOutcome) → Judged-as o (Image.image-after l given) k size t rest → Buffer-after o size t u → Piece-within kept size e o →
+      convert-after l (take kept t) given ≡ convert-by o k size u rest
+  unfolding convert-after convert-on convert-by Judged-as Buffer-after Piece-within
+  by-outcome (Refused n) j a p = rw j refl
+  by-outcome (More n) j a p =
+      ap₂ convert-on j (parts-join kept size t rest h ∙ sym (parts-join n size t rest (p .2)))
+      ∙ ap (λ xs. convert-on (Image.image-after k (waiting n size xs ++ rest)) (take n xs ++ (waiting n size xs ++ rest))) (sym a)
+  by-outcome (Ready n) j a p =
+      ap₂ convert-on (j .1 .1) (parts-join kept size t rest h ∙ ap (λ xs. take size t ++ xs) (z p) ∙ append-nil (take size t))
+      ∙ sym (front size size t (omega arith) room n u a)
+
+pub pieces-convert : Pieces-convert
+unfolding Piece-judged
+pieces-convert l m t kept size e x m-now u h room w rest z =
+    by-outcome (as-loading l m) t kept size e (as-loading (x .loading) m-now) u h room rest z (x .outcome) (w .judged rest z) (w .buffer-after) (w .outcome-within)

@@ -1,0 +1,59 @@
+-- A stored image read in pieces: what each turn keeps, and each way out. Assumes nothing.
+use mathlib.Core.Path.{_≡_, sym, subst}
+use mathlib.Core.Bool.{Bool}
+use mathlib.Core.List.{List}
+use Prim.Native.Nat.{ℕ, _≤_}
+use native.Mathlib.Omega.{arith}
+use lib.ListN.{length, take}
+use lib.Seq.{length-take-le}
+use Rattle.records.specs.declared.loading.Loading.{Loading}
+use Rattle.records.specs.View.{Loading-within}
+use Rattle.conversion.specs.declared.ConvertOutcome.{ConvertOutcome}
+use Rattle.conversion.specs.declared.ConvertOutcome.the-variants.{Refused, More, Ready}
+use Rattle.conversion.specs.declared.Converted.{Converted}
+use Rattle.conversion.specs.Piece.{Buffer-after, Piece-within, Piece-converted}
+use Rattle.conversion.proofs.PieceLaws.{compacted-length}
+use Rattle.convert.specs.declared.Progress.{Progress}
+use Rattle.convert.specs.declared.Progress.the-variants as Done
+use Rattle.image.proofs.LoadLaws.{may-load}
+use Rattle.convert.specs.Turn.{Outcome-within, Progress-fits}
+
+module _ (l : Loading) (m t : List ℕ) (kept size : ℕ) (e : Bool) (x : Converted) (m-now u : List ℕ) (w : Piece-converted l m t kept size e x m-now u) where
+  pub still-within : Loading-within (x .loading) m-now
+  still-within = w .within
+
+  pub outcome-fits : size ≤ length t → Outcome-within (x .outcome) size u
+  unfolding Buffer-after Piece-within
+  outcome-fits h = by-outcome (x .outcome) (w .buffer-after) (w .outcome-within)
+    where
+      by-outcome : (o : ConvertOutcome) → Buffer-after o size t u → Piece-within kept size e o → Outcome-within o size u
+      by-outcome (Refused n) a p = tt
+      by-outcome (More n) a p = (p .2, subst (λ b. size ≤ length b) (sym a) h)
+      by-outcome (Ready n) a p = let z = compacted-length size size t (omega arith) h n u a in let y = a .shorter in omega arith
+
+module _ (o : ConvertOutcome) (size : ℕ) (u : List ℕ) (h : Outcome-within o size u) where
+  pub more-kept : (n : ℕ) → o ≡ More n → n ≤ size
+  more-kept n q = subst (λ a. Outcome-within a size u) q h .0
+
+  pub more-size : (n : ℕ) → o ≡ More n → size ≤ length u
+  more-size n q = subst (λ a. Outcome-within a size u) q h .1
+
+  pub ready-fits : (n : ℕ) → o ≡ Ready n → n ≤ length u
+  ready-fits n q = subst (λ a. Outcome-within a size u) q h
+
+-- the loading that goes on may be lent the store again
+pub goes-on-within : (l k : Loading) (store : List ℕ) → Loading-within l store → k ≡ l → Loading-within k store
+goes-on-within l k store h q = subst (λ j. Loading-within j store) (sym q) h
+
+-- the new image, as a part of the buffer
+pub new-image : (o : Progress) (u : List ℕ) (n : ℕ) → Progress-fits o u → o ≡ Done.Ready n → n ≤ length u
+new-image o u n h q = subst (λ a. Progress-fits a u) q h
+
+pub new-size : (o : Progress) (u : List ℕ) (n : ℕ) → Progress-fits o u → o ≡ Done.Ready n → n ≡ length (take n u)
+new-size o u n h q = sym (length-take-le n u (new-image o u n h q))
+
+pub ruleset outcomes = (more-kept, more-size, ready-fits)
+
+pub ruleset turns = (still-within, outcome-fits, goes-on-within)
+
+pub ruleset news = (may-load, new-image, new-size)

@@ -1,0 +1,2 @@
+-- What this program's functions keep. Assumes nothing: these are definitions.
+pub mod Turn

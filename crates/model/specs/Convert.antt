@@ -1,0 +1,83 @@
+-- 02, L1: what `convert` makes of a stored image. Assumes nothing: these are definitions.
+use mathlib.Core.Bool.{Bool, true, false, _&&_, _||_, cond}
+use mathlib.Core.List.{List, [], _∷_, _++_}
+use mathlib.Core.Option.{Option, none, some}
+use Prim.Native.Nat.{ℕ, zero, suc}
+use lib.Dec.{ltb, leb, eqb}
+use lib.ListN.{length, take, drop}
+use Rattle.model.specs.Run.{refused}
+use Rattle.model.specs.Image.{Mark, ME, ST, WD, RN, mark-of, record-size, number-at, Loading, nothing-loaded, stored, Image, refused-image, loaded, image-after, stored-image}
+use Rattle.model.specs.Listing.{last-line}
+use Rattle.model.specs.Bench.{Called, call-refused, call-wrote}
+
+-- THE RECORDS at the front of some bytes, each as its own bytes. The bytes of a whole record with a known mark; else none
+unfoldable pub size-by : Option Mark → (bytes : ℕ) → ℕ
+size-by none n = 0
+size-by (some k) n = cond (leb (record-size k) n) (record-size k) 0
+
+unfoldable pub front-size : List ℕ → ℕ
+front-size bs = size-by (mark-of bs) (length bs)
+
+unfoldable pub records-from : (most : ℕ) → List ℕ → List (List ℕ)
+records-from zero bs = []
+records-from (suc n) bs =
+    let s = front-size bs in
+    cond (eqb s 0) [] (take s bs ∷ records-from n (drop s bs))
+
+-- each record takes a byte at least, so there are at most as many as bytes
+unfoldable pub records : List ℕ → List (List ℕ)
+records bs = records-from (length bs) bs
+
+unfoldable pub joined : List (List ℕ) → List ℕ
+joined [] = []
+joined (x ∷ xs) = x ++ joined xs
+
+-- what comes after the records
+unfoldable pub left-over : List ℕ → List ℕ
+left-over bs = drop (length (joined (records bs))) bs
+
+-- OF THE WD RECORDS THE LAST OF EACH ADDRESS. 43 and 44 let no WD by with an address of 8,192 or above
+unfoldable pub is-word : Option Mark → Bool
+is-word none = false
+is-word (some ME) = false
+is-word (some ST) = false
+is-word (some WD) = true
+is-word (some RN) = false
+
+unfoldable pub writes : (address : ℕ) → (one : List ℕ) → Bool
+writes a x = is-word (mark-of x) && (eqb (number-at 2 4 x) a && ltb a 8192)
+
+unfoldable pub some-writes : (address : ℕ) → List (List ℕ) → Bool
+some-writes a [] = false
+some-writes a (x ∷ xs) = writes a x || some-writes a xs
+
+-- a later record writes the word that this one writes
+unfoldable pub superseded : (one : List ℕ) → (later : List (List ℕ)) → Bool
+superseded x xs = let a = number-at 2 4 x in writes a x && some-writes a xs
+
+unfoldable pub last-of-each : List (List ℕ) → List (List ℕ)
+last-of-each [] = []
+last-of-each (x ∷ xs) = cond (superseded x xs) (last-of-each xs) (x ∷ last-of-each xs)
+
+-- every other record stays where it stands
+unfoldable pub compacted : List ℕ → List ℕ
+compacted bs = joined (last-of-each (records bs)) ++ left-over bs
+
+-- THE PROGRAM: the stored image is judged, then written. With `kept` the bytes whose records have been loaded, and those that come after them
+unfoldable pub convert-on : Image → (bytes : List ℕ) → List ℕ
+convert-on (refused-image n) bs = last-line (refused n)
+convert-on (loaded m b) bs = compacted bs
+
+unfoldable pub convert-after : Loading → (kept bytes : List ℕ) → List ℕ
+convert-after l kept bs = convert-on (image-after l bs) (kept ++ bs)
+
+unfoldable pub convert : List ℕ → List ℕ
+convert bs = convert-after (nothing-loaded stored) [] bs
+
+-- C'S CALL converts an image where it stands; bytes after the new one, and on refusal all, keep what they held
+unfoldable pub convert-call-on : Image → (bytes : List ℕ) → Called
+convert-call-on (refused-image n) bs = call-refused n bs
+convert-call-on (loaded m b) bs = call-wrote (compacted bs) bs
+
+unfoldable pub convert-call : List ℕ → Called
+convert-call bs = convert-call-on (stored-image bs) bs
