@@ -16,10 +16,10 @@ use segments::translate::Dbr;
 use words::descriptor::Descriptor;
 use words::pointer::Pointer;
 
-// A fault with its pointer, or TPR.
+// A fault with its pointer, or TPR; and how many pointer words were read.
 pub enum Address {
-    Bad(u8, Pointer),
-    Good(Pointer),
+    Bad(u8, Pointer, u64),
+    Good(Pointer, u64),
 }
 
 // Where a pointer word read at `t` leads: the ring is the largest of the three.
@@ -38,16 +38,16 @@ pub fn effective(dbr: Dbr, memory: &[u64], first: Pointer) -> Address
     requires { ⌜ (dbr .address + dbr .length ≤ length (now memory)) × Pointer-within first ⌝ }
     ensures { λ x. ⌜ Addressed (as-dbr dbr) (now (memory .entry)) (as-pointer first) x ⌝ }
 {
-    let mut left: u8 = 64;
+    let mut left: u64 = 64;
     let mut more = true;
     let mut t = first;
     while more {
         if left == 0 {
-            return Address::Bad(31, t);
+            return Address::Bad(31, t, 64);
         }
         match segments::access::read(Use::Read, dbr, memory, t) {
             Accessed::Refused(n) => {
-                return Address::Bad(n, t);
+                return Address::Bad(n, t, 64 - left);
             }
             Accessed::Word(d, w) => {
                 t = next_address(t, d, w);
@@ -56,7 +56,7 @@ pub fn effective(dbr: Dbr, memory: &[u64], first: Pointer) -> Address
         }
         left -= 1;
     }
-    Address::Good(t)
+    Address::Good(t, 64 - left)
 }
 
 // P off: from IPR. P on: from the PR, in the larger of the two rings.

@@ -1,9 +1,11 @@
 -- What a call on a lent record and memory answers and leaves: the definition's reply as numbers, registers and every memory word. Assumes nothing: these are definitions.
 use mathlib.Core.Path.{_≡_}
+use mathlib.Core.Bool.{Bool, cond}
 use mathlib.Core.List.{List}
-use Prim.Native.Nat.{ℕ}
+use Prim.Native.Nat.{ℕ, _+_}
 use Rattle.model.specs.Answers.{Numbers, reply-numbers, step-numbers}
-use Rattle.model.specs.Run.{run, single-step}
+use Rattle.model.specs.Questions.{start-questions}
+use Rattle.model.specs.Run.{run, single-step, total, fault-count-from, single-count}
 use Rattle.host.specs.Record.{pointer-of, registers-of, machine-of}
 use Rattle.host.specs.declared.record.DescriptorBase.{DescriptorBase}
 use Rattle.host.specs.declared.record.Pointer.{Pointer}
@@ -21,8 +23,23 @@ pub record Run-says (budget : ℕ) (before : Registers) (memory : List ℕ) (ans
   pub answer-same : as-numbers answer ≡ reply-numbers (run budget (machine-of before memory) .reply)
   pub registers-same : registers-of after ≡ run budget (machine-of before memory) .machine .registers
   pub memory-same : memory-now ≡ run budget (machine-of before memory) .machine .memory
+  pub pointers-same : answer .«pointer_words» ≡ total budget (machine-of before memory)
 
 pub record Step-says (before : Registers) (memory : List ℕ) (answer : Answer) (after : Registers) (memory-now : List ℕ) : Type 0 where
   pub answer-same : as-numbers answer ≡ step-numbers (single-step (machine-of before memory) .reply)
   pub registers-same : registers-of after ≡ single-step (machine-of before memory) .machine .registers
   pub memory-same : memory-now ≡ single-step (machine-of before memory) .machine .memory
+  pub pointers-same : answer .«pointer_words» ≡ single-count (machine-of before memory)
+
+-- BOTH BY ONE CALL: pointer words with those of the step at which the run faults, or without
+abbrev pub counted : (single : Bool) → (total last : ℕ) → ℕ
+counted s t l = cond s (t + l) t
+
+pub record Call-says (single : Bool) (budget : ℕ) (before : Registers) (memory : List ℕ) (answer : Answer) (after : Registers) (memory-now : List ℕ) : Type 0 where
+  pub answer-same : as-numbers answer ≡ reply-numbers (run budget (machine-of before memory) .reply)
+  pub registers-same : registers-of after ≡ run budget (machine-of before memory) .machine .registers
+  pub memory-same : memory-now ≡ run budget (machine-of before memory) .machine .memory
+  pub last : ℕ
+  pub last-same : start-questions (machine-of before memory) ≡ 0 → last ≡ fault-count-from budget (machine-of before memory)
+  pub last-none : (start-questions (machine-of before memory) ≡ 0 → ⊥) → last ≡ 0
+  pub pointers-same : answer .«pointer_words» ≡ counted single (total budget (machine-of before memory)) last

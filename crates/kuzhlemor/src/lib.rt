@@ -2,18 +2,21 @@
 ghost use mathlib.Core.Path.{_≡_};
 ghost use Rattle.model.specs.Bench as Bench;
 ghost use Rattle.model.specs.Convert.{convert-call};
-ghost use Rattle.kuzhlemor.specs.Entry.{together, Run-says, Step-says};
+ghost use Prim.Native.Nat.{_+_, _^_, _<_};
+ghost use Rattle.kuzhlemor.specs.Entry.{together, counted, Call-says, Run-says, Step-says};
 use host::record::DescriptorBase;
 use host::record::Pointer;
 use host::record::Registers;
 
-// An answer as numbers. Kinds: 0 refused, 1 spent or completed, 2 halted, 3 fault; what a kind leaves free is 0.
+// An answer as numbers. Kinds: 0 refused, 1 spent or completed, 2 halted, 3 fault; what a kind leaves free is 0. Pointer words are
+// those of a run's completed steps, or of a single step however it ends.
 #[repr(C)]
 pub struct Answer {
     pub kind: u32,
     pub number: u32,
     pub count: u32,
     pub pointer: Pointer,
+    pub pointer_words: u64,
 }
 
 // An answer, and the record's fields beside its array.
@@ -24,7 +27,18 @@ pub struct Answered {
     pub ipr: Pointer,
 }
 
-// A run on the parts of a record: its PRs are lent, the rest comes and goes by value.
+// A single step that faults has its own count; a run leaves out the step at which it faults.
+fn counted(single: bool, total: u64, last: u64) -> u64
+    requires { ⌜ total + last < 2 ^ 64 ⌝ }
+    ensures { λ r. ⌜ r ≡ counted single total last ⌝ }
+{
+    if single {
+        return total + last;
+    }
+    total
+}
+
+// A run on the parts of a record, as one or as a single step: its PRs are lent, the rest comes and goes by value.
 pub fn run_fields(
     prs: &mut [u16; 24],
     memory: &mut [u64],
@@ -32,8 +46,9 @@ pub fn run_fields(
     dbr: DescriptorBase,
     ipr: Pointer,
     budget: u32,
+    single: bool,
 ) -> Answered
-    ensures { λ x. ⌜ Run-says budget (together a dbr ipr (now (prs .entry))) (now (memory .entry)) (x .answer) (together (x .a) (x .dbr) (x .ipr) (now (prs .exit))) (now (memory .exit)) ⌝ }
+    ensures { λ x. ⌜ Call-says single budget (together a dbr ipr (now (prs .entry))) (now (memory .entry)) (x .answer) (together (x .a) (x .dbr) (x .ipr) (now (prs .exit))) (now (memory .exit)) ⌝ }
 {
     let base = host::record::to_base(dbr);
     let at = host::record::to_core(ipr);
@@ -56,6 +71,7 @@ pub fn run_fields(
             number: x.number as u32,
             count: x.count as u32,
             pointer: host::record::from_core(x.pointer),
+            pointer_words: counted(single, x.total, x.last),
         },
         a: x.core.a,
         dbr: host::record::from_base(x.core.dbr),
@@ -63,7 +79,20 @@ pub fn run_fields(
     }
 }
 
-// A run on the host's own record: its array is lent on in place, the other fields are read before the run and stored after it.
+// A call on the host's own record: its array is lent on in place, the other fields are read before the run and stored after it.
+pub fn call(registers: &mut Registers, memory: &mut [u64], budget: u32, single: bool) -> Answer
+    ensures { λ r. ⌜ Call-says single budget (now (registers .entry)) (now (memory .entry)) r (now (registers .exit)) (now (memory .exit)) ⌝ }
+{
+    let a = registers.a;
+    let dbr = registers.dbr;
+    let ipr = registers.ipr;
+    let x = run_fields(&mut registers.prs, memory, a, dbr, ipr, budget, single);
+    registers.a = x.a;
+    registers.dbr = x.dbr;
+    registers.ipr = x.ipr;
+    x.answer
+}
+
 #[no_mangle]
 pub extern "C" fn kuzhlemor_run(
     registers: &mut Registers,
@@ -72,22 +101,15 @@ pub extern "C" fn kuzhlemor_run(
 ) -> Answer
     ensures { λ r. ⌜ Run-says budget (now (registers .entry)) (now (memory .entry)) r (now (registers .exit)) (now (memory .exit)) ⌝ }
 {
-    let a = registers.a;
-    let dbr = registers.dbr;
-    let ipr = registers.ipr;
-    let x = run_fields(&mut registers.prs, memory, a, dbr, ipr, budget);
-    registers.a = x.a;
-    registers.dbr = x.dbr;
-    registers.ipr = x.ipr;
-    x.answer
+    call(registers, memory, budget, false)
 }
 
-// A single step on the host's own record: it answers as a run of that one step does.
+// A single step answers as a run of that one step does, but for the pointer words of one that faults.
 #[no_mangle]
 pub extern "C" fn kuzhlemor_step(registers: &mut Registers, memory: &mut [u64]) -> Answer
     ensures { λ r. ⌜ Step-says (now (registers .entry)) (now (memory .entry)) r (now (registers .exit)) (now (memory .exit)) ⌝ }
 {
-    kuzhlemor_run(registers, memory, 1)
+    call(registers, memory, 1, true)
 }
 
 // An image and a text buffer, both as bytes, for the image's listing: the question's number negated, or the text's length.

@@ -10,16 +10,16 @@ use Rattle.model.specs.Registers.{Machine}
 use Rattle.model.specs.Answers.{Numbers, numbers, reply-numbers}
 use Rattle.model.specs.Questions.{all, pointer-in-range, registers-in-range, dbr-fits, start-questions}
 use Rattle.model.specs.Run as Run
-use Rattle.model.specs.Run.{ran, run-from, run}
+use Rattle.model.specs.Run.{ran, run-from, run, total, total-of}
 use Rattle.model.proofs.BranchLaws.{and-left, and-right}
 use Rattle.model.proofs.QuestionLaws.{ask-yes}
-use Rattle.model.proofs.RunLaws.{run-refused, run-goes}
+use Rattle.model.proofs.RunLaws.{run-refused, run-goes, trace-refused, trace-goes}
 use Rattle.words.specs.View.{as-pointer, Pointer-within}
 use Rattle.words.specs.declared.pointer.Pointer.{Pointer}
 use Rattle.segments.specs.View.{as-pointers, as-machine}
 use Rattle.segments.specs.declared.state.Core.{Core}
 use Rattle.host.specs.Record.{In-record}
-use Rattle.run.specs.Run.{as-reply, Reply-within, completed, noted-pointers, Ran-as, Traced}
+use Rattle.run.specs.Run.{as-reply, Reply-within, completed, noted-steps, Ran-as, Traced, Counted}
 use Rattle.run.specs.declared.Ran.{Ran}
 use Rattle.run.specs.declared.Reply.{Reply}
 use Rattle.run.specs.declared.Reply.the-variants as Reply
@@ -34,28 +34,28 @@ nowhere = record { ring = 0; segment = record { 0 = 0 }; word = record { 0 = 0 }
 nowhere-within : Pointer-within nowhere
 nowhere-within = record { ring-within = omega arith; segment-within = omega arith; word-within = omega arith }
 
-module _ (r : Reply) (c : Core) (p : Pointer) where
-  pub refused-answered : (n : ℕ) → r ≡ Reply.Refused n → n ≤ 255 → p ≡ nowhere → Answers-with r c (record { kind = 0; core = c; number = n; pointer = p; count = 0 })
+module _ (r : Reply) (c : Core) (p : Pointer) (total last : ℕ) where
+  pub refused-answered : (n : ℕ) → r ≡ Reply.Refused n → n ≤ 255 → p ≡ nowhere → Answers-with r c total last (record { kind = 0; core = c; number = n; pointer = p; count = 0; total = total; last = last })
   unfolding reply-numbers numbers
   refused-answered n e h f =
-      rw (e, f) (record { numbers-same = refl; core-same = refl; fits = record { kind-fits = omega arith; number-fits = h; count-fits = omega arith; pointer-fits = nowhere-within } })
+      rw (e, f) (record { numbers-same = refl; core-same = refl; total-same = refl; last-same = refl; fits = record { kind-fits = omega arith; number-fits = h; count-fits = omega arith; pointer-fits = nowhere-within } })
 
-  pub spent-answered : (n : ℕ) → r ≡ Reply.Spent n → n ≤ 4294967295 → p ≡ nowhere → Answers-with r c (record { kind = 1; core = c; number = 0; pointer = p; count = n })
+  pub spent-answered : (n : ℕ) → r ≡ Reply.Spent n → n ≤ 4294967295 → p ≡ nowhere → Answers-with r c total last (record { kind = 1; core = c; number = 0; pointer = p; count = n; total = total; last = last })
   unfolding reply-numbers numbers
   spent-answered n e h f =
-      rw (e, f) (record { numbers-same = refl; core-same = refl; fits = record { kind-fits = omega arith; number-fits = omega arith; count-fits = h; pointer-fits = nowhere-within } })
+      rw (e, f) (record { numbers-same = refl; core-same = refl; total-same = refl; last-same = refl; fits = record { kind-fits = omega arith; number-fits = omega arith; count-fits = h; pointer-fits = nowhere-within } })
 
-  pub halted-answered : (n : ℕ) → r ≡ Reply.Halted n → n ≤ 4294967295 → p ≡ nowhere → Answers-with r c (record { kind = 2; core = c; number = 0; pointer = p; count = n })
+  pub halted-answered : (n : ℕ) → r ≡ Reply.Halted n → n ≤ 4294967295 → p ≡ nowhere → Answers-with r c total last (record { kind = 2; core = c; number = 0; pointer = p; count = n; total = total; last = last })
   unfolding reply-numbers numbers
   halted-answered n e h f =
-      rw (e, f) (record { numbers-same = refl; core-same = refl; fits = record { kind-fits = omega arith; number-fits = omega arith; count-fits = h; pointer-fits = nowhere-within } })
+      rw (e, f) (record { numbers-same = refl; core-same = refl; total-same = refl; last-same = refl; fits = record { kind-fits = omega arith; number-fits = omega arith; count-fits = h; pointer-fits = nowhere-within } })
 
-pub fault-answered : (r : Reply) (c : Core) (i n : ℕ) (t : Pointer) → Reply-within r → r ≡ Reply.Fault i n t → i ≤ 255 → n ≤ 4294967295 →
-    Answers-with r c (record { kind = 3; core = c; number = i; pointer = t; count = n })
+pub fault-answered : (r : Reply) (c : Core) (total last i n : ℕ) (t : Pointer) → Reply-within r → r ≡ Reply.Fault i n t → i ≤ 255 → n ≤ 4294967295 →
+    Answers-with r c total last (record { kind = 3; core = c; number = i; pointer = t; count = n; total = total; last = last })
 unfolding reply-numbers numbers
-fault-answered r c i n t w e h k =
+fault-answered r c total last i n t w e h k =
     let within : Pointer-within t = subst Reply-within e w in
-    rw e (record { numbers-same = refl; core-same = refl; fits = record { kind-fits = omega arith; number-fits = h; count-fits = k; pointer-fits = within } })
+    rw e (record { numbers-same = refl; core-same = refl; total-same = refl; last-same = refl; fits = record { kind-fits = omega arith; number-fits = h; count-fits = k; pointer-fits = within } })
 
 -- NUMBERS AS A REPLY
 pub reply-of-numbers : (r : Run.Reply) → reply-in (reply-numbers r) ≡ r
@@ -108,8 +108,8 @@ passing-in-record c prs m e =
     }
 
 module _ (b : ℕ) (c : Core) (prs memory trace : List ℕ) (n : ℕ) (e : n ≡ start-questions (as-machine c prs memory)) (x : Answered) where
-  pub refused-whole : (n ≡ 0 → ⊥) → Answers-with (Reply.Refused n) c x → Answered-as b c prs memory trace x prs memory trace
-  unfolding ran
+  pub refused-whole : (n ≡ 0 → ⊥) → Answers-with (Reply.Refused n) c 0 0 x → Answered-as b c prs memory trace x prs memory trace
+  unfolding ran total total-of
   refused-whole h a =
       record {
         numbers-same = a .numbers-same ∙ ap (λ (y : Run.Ran). reply-numbers (y .reply)) (sym refuses);
@@ -119,8 +119,15 @@ module _ (b : ℕ) (c : Core) (prs memory trace : List ℕ) (n : ℕ) (e : n ≡
         passes = λ z. absurd (h (e ∙ z));
         trace-size = refl;
         traced = λ z. absurd (h (e ∙ z));
+        total-same = a .total-same ∙ sym (none-read (as-machine c prs memory) n e h);
+        last-same = λ z. absurd (h (e ∙ z));
+        last-none = λ _. a .last-same;
       }
     where
+      none-read : (m : Machine) (n : ℕ) → n ≡ start-questions m → (n ≡ 0 → ⊥) → total b m ≡ 0
+      none-read m zero e f = absurd (f refl)
+      none-read m (suc n) e f = ap total-of (trace-refused b n m (sym e))
+
       by-number : (m : Machine) (n : ℕ) → n ≡ start-questions m → (n ≡ 0 → ⊥) → run b m ≡ ran (Run.Reply.refused n) m
       by-number m zero e f = absurd (f refl)
       by-number m (suc n) e f = run-refused b n m (sym e)
@@ -129,9 +136,9 @@ module _ (b : ℕ) (c : Core) (prs memory trace : List ℕ) (n : ℕ) (e : n ≡
       refuses = by-number (as-machine c prs memory) n e h
 
   pub run-whole : n ≡ 0 → (y : Ran) (prs-now memory-now trace-now : List ℕ) → Ran-as (run-from b 0 (as-machine c prs memory)) y (as-machine (y .core) prs-now memory-now) →
-      Traced b (as-machine c prs memory) y trace trace-now → Answers-with (y .reply) (y .core) x → Answered-as b c prs memory trace x prs-now memory-now trace-now
-  unfolding ran
-  run-whole z y prs-now memory-now trace-now r t a =
+      Traced b (as-machine c prs memory) y trace trace-now → Counted b (as-machine c prs memory) y → Answers-with (y .reply) (y .core) (y .total) (y .last) x → Answered-as b c prs memory trace x prs-now memory-now trace-now
+  unfolding ran total
+  run-whole z y prs-now memory-now trace-now r t k a =
       let goes : run b (as-machine c prs memory) ≡ ran (as-reply (y .reply)) (as-machine (y .core) prs-now memory-now) = run-goes b (as-machine c prs memory) (sym e ∙ z) ∙ r .same in
       let again : start-questions (as-machine (x .core) prs-now memory-now) ≡ 0 = subst (λ d. start-questions (as-machine d prs-now memory-now) ≡ 0) (sym (a .core-same)) (r .passes) in
       record {
@@ -143,7 +150,10 @@ module _ (b : ℕ) (c : Core) (prs memory trace : List ℕ) (n : ℕ) (e : n ≡
         trace-size = t .size-same;
         traced =
             λ _ room.
-            ap (λ k. noted-pointers (take k trace-now)) (ap (λ (q : Numbers). q .count) (a .numbers-same) ∙ count-completed (y .reply)) ∙ t .traced room;
+            ap (λ k. noted-steps (take k trace-now)) (ap (λ (q : Numbers). q .count) (a .numbers-same) ∙ count-completed (y .reply)) ∙ t .traced room;
+        total-same = a .total-same ∙ k .total-same ∙ ap total-of (sym (trace-goes b (as-machine c prs memory) (sym e ∙ z)));
+        last-same = λ _. a .last-same ∙ k .last-same;
+        last-none = λ f. absurd (f (sym e ∙ z));
       }
 
 pub ruleset replies = (refused-answered, spent-answered, halted-answered, fault-answered, replies-refused, replies-spent, replies-halted, replies-fault)

@@ -13,7 +13,7 @@ use Rattle.segments.specs.View.{as-machine}
 use Rattle.segments.specs.declared.state.Core.{Core}
 use Rattle.host.specs.Record.{machine-of, In-record}
 use Rattle.host.specs.declared.record.Registers.{Registers}
-use Rattle.run.specs.Run.{as-reply, Reply-within, noted-pointers}
+use Rattle.run.specs.Run.{as-reply, Reply-within, noted-steps}
 use Rattle.run.specs.declared.Reply.{Reply}
 use Rattle.machine.specs.declared.Answered.{Answered}
 use Rattle.machine.specs.declared.Prepared.{Prepared}
@@ -32,12 +32,14 @@ pub record Answer-fits (x : Answered) : Type 0 where
   pub count-fits : x .count ≤ 4294967295
   pub pointer-fits : Pointer-within (x .pointer)
 
-pub record Answers-with (r : Reply) (c : Core) (x : Answered) : Type 0 where
+pub record Answers-with (r : Reply) (c : Core) (total last : ℕ) (x : Answered) : Type 0 where
   pub numbers-same : as-numbers x ≡ reply-numbers (as-reply r)
   pub core-same : x .core ≡ c
+  pub total-same : x .total ≡ total
+  pub last-same : x .last ≡ last
   pub fits : Answer-fits x
 
--- the definition's run: reply, registers and every word of memory, and its trace where there is room
+-- the definition's run: reply, registers and every word of memory, its pointer words, and its trace where there is room
 pub record Answered-as (budget : ℕ) (c : Core) (prs memory trace : List ℕ) (x : Answered) (prs-now memory-now trace-now : List ℕ) : Type 0 where
   pub numbers-same : as-numbers x ≡ reply-numbers (Run.run budget (as-machine c prs memory) .reply)
   pub machine-same : as-machine (x .core) prs-now memory-now ≡ Run.run budget (as-machine c prs memory) .machine
@@ -45,7 +47,10 @@ pub record Answered-as (budget : ℕ) (c : Core) (prs memory trace : List ℕ) (
   pub core-fits : In-record c → In-record (x .core)
   pub passes : start-questions (as-machine c prs memory) ≡ 0 → start-questions (as-machine (x .core) prs-now memory-now) ≡ 0
   pub trace-size : length trace-now ≡ length trace
-  pub traced : start-questions (as-machine c prs memory) ≡ 0 → budget ≤ length trace → noted-pointers (take (x .count) trace-now) ≡ Run.trace-from budget (as-machine c prs memory)
+  pub traced : start-questions (as-machine c prs memory) ≡ 0 → budget ≤ length trace → noted-steps (take (x .count) trace-now) ≡ Run.trace-from budget (as-machine c prs memory)
+  pub total-same : x .total ≡ Run.total budget (as-machine c prs memory)
+  pub last-same : start-questions (as-machine c prs memory) ≡ 0 → x .last ≡ Run.fault-count-from budget (as-machine c prs memory)
+  pub last-none : (start-questions (as-machine c prs memory) ≡ 0 → ⊥) → x .last ≡ 0
 
 -- the reply that numbers stand for
 unfoldable pub reply-in : Numbers → Run.Reply

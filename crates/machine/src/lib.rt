@@ -12,7 +12,7 @@ use words::pointer::SegmentNumber;
 use words::pointer::WordNumber;
 
 // An answer as numbers, and the core after it. Kinds: 0 refused, 1 spent or completed, 2 halted, 3 fault; what a kind leaves
-// free is 0. Numbers that C gets side by side stand apart here: else the compiler loads both at once where they were stored
+// free is 0. `total`: the pointer words of the completed steps; `last`: those of the step at which the run faults. Numbers that C gets side by side stand apart here: else the compiler loads both at once where they were stored
 // one by one just before, and waits for it.
 pub struct Answered {
     pub kind: u64,
@@ -20,6 +20,8 @@ pub struct Answered {
     pub number: u64,
     pub pointer: Pointer,
     pub count: u64,
+    pub total: u64,
+    pub last: u64,
 }
 
 fn no_pointer() -> Pointer
@@ -32,9 +34,9 @@ fn no_pointer() -> Pointer
     }
 }
 
-fn answer_of(reply: Reply, core: Core) -> Answered
+fn answer_of(reply: Reply, core: Core, total: u64, last: u64) -> Answered
     requires { ⌜ Reply-within reply ⌝ }
-    ensures { λ x. ⌜ Answers-with reply core x ⌝ }
+    ensures { λ x. ⌜ Answers-with reply core total last x ⌝ }
 {
     match reply {
         Reply::Refused(n) => Answered {
@@ -43,6 +45,8 @@ fn answer_of(reply: Reply, core: Core) -> Answered
             number: n as u64,
             pointer: no_pointer(),
             count: 0,
+            total,
+            last,
         },
         Reply::Spent(count) => Answered {
             kind: 1,
@@ -50,6 +54,8 @@ fn answer_of(reply: Reply, core: Core) -> Answered
             number: 0,
             pointer: no_pointer(),
             count: count as u64,
+            total,
+            last,
         },
         Reply::Halted(count) => Answered {
             kind: 2,
@@ -57,6 +63,8 @@ fn answer_of(reply: Reply, core: Core) -> Answered
             number: 0,
             pointer: no_pointer(),
             count: count as u64,
+            total,
+            last,
         },
         Reply::Fault(n, count, t) => Answered {
             kind: 3,
@@ -64,6 +72,8 @@ fn answer_of(reply: Reply, core: Core) -> Answered
             number: n as u64,
             pointer: t,
             count: count as u64,
+            total,
+            last,
         },
     }
 }
@@ -94,12 +104,12 @@ pub fn run(
     };
     let n = host::start::start_answer(core, prs, memory);
     if n != 0 {
-        return answer_of(Reply::Refused(n), core);
+        return answer_of(Reply::Refused(n), core, 0, 0);
     }
     let y = run::run(core, prs, memory, budget, trace);
     let reply = y.reply;
     let after = y.core;
-    answer_of(reply, after)
+    answer_of(reply, after, y.total, y.last)
 }
 
 // The reply that the numbers stand for.

@@ -60,12 +60,21 @@ fn print_listing(core: Core, start: [u16; 24], memory: &mut [u64], budget: u32)
             core,
             length: 0,
             is_last: false,
+            total: 0,
         },
         count: 0,
     };
     let mut turns = u64::MAX;
     while turns > 0 {
-        x = listing::list(x.line.core, &mut prs, memory, x.count, budget, &mut text);
+        x = listing::list(
+            x.line.core,
+            &mut prs,
+            memory,
+            x.count,
+            x.line.total,
+            budget,
+            &mut text,
+        );
         let size = x.line.length;
         if !io::write_all(STDOUT_FILENO, &text[..size]) {
             return;

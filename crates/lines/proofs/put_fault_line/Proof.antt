@@ -5,17 +5,23 @@ use Rattle.lines.proofs.LastLineLaws.{next-after-fault-line, fault-line
 use Rattle.lines.proofs.put_fault_line.Statement.{statement}
 use Rattle.lines.proofs.put_fault_line.Tie as tie
 
-slice-aggregate-put-named : tie.Need-slice-aggregate-put-named
-slice-aggregate-put-named c = search needs
+slice-aggregate-put-bytes : tie.Need-slice-aggregate-put-bytes
+slice-aggregate-put-bytes c = search needs
 
-put-named-requires : tie.Need-put-named-requires
-put-named-requires c κs = search needs
+put-bytes-requires : tie.Need-put-bytes-requires
+put-bytes-requires c κs = search needs
+
+put-short-requires : tie.Need-put-short-requires
+put-short-requires c κs = search needs
 
 put-number-requires : tie.Need-put-number-requires
 put-number-requires c κs = search needs
 
 put-pointer-requires : tie.Need-put-pointer-requires
 put-pointer-requires c κs = search needs
+
+put-total-requires : tie.Need-put-total-requires
+put-total-requires c κs = search needs
 
 same-length : tie.Need-same-length
 same-length c = search needs
@@ -28,9 +34,11 @@ pub put-fault-line-spec : {M : Type 1} → statement M
 put-fault-line-spec =
     tie.close
     (tie.spec
-    slice-aggregate-put-named
-    put-named-requires
+    slice-aggregate-put-bytes
+    put-bytes-requires
+    put-short-requires
     put-number-requires
     put-pointer-requires
+    put-total-requires
     same-length
     returns)

@@ -1,6 +1,6 @@
 -- `put_last_line` meets its contract. Assumes nothing.
 use borrow.Author.Needs.{needs}
-use Rattle.model.specs.Listing.{ascii, line, last-line}
+use Rattle.model.specs.Listing.{ascii, line, refusal-line, last-line}
 use Rattle.lines.proofs.LastLineLaws.{last-line-laws}
 use Rattle.lines.proofs.put_last_line.Statement.{statement}
 use Rattle.lines.proofs.put_last_line.Tie as tie
@@ -20,20 +20,20 @@ put-named-requires c κs = search needs
 enum-known-reply-2 : tie.Need-enum-known-reply-2
 enum-known-reply-2 c = search needs
 
-slice-aggregate-put-named-2 : tie.Need-slice-aggregate-put-named-2
-slice-aggregate-put-named-2 c = search needs
+slice-aggregate-put-counted : tie.Need-slice-aggregate-put-counted
+slice-aggregate-put-counted c = search needs
 
-put-named-requires-2 : tie.Need-put-named-requires-2
-put-named-requires-2 c κs = search needs
+put-counted-requires : tie.Need-put-counted-requires
+put-counted-requires c κs = search needs
 
 enum-known-reply-3 : tie.Need-enum-known-reply-3
 enum-known-reply-3 c = search needs
 
-slice-aggregate-put-named-3 : tie.Need-slice-aggregate-put-named-3
-slice-aggregate-put-named-3 c = search needs
+slice-aggregate-put-counted-2 : tie.Need-slice-aggregate-put-counted-2
+slice-aggregate-put-counted-2 c = search needs
 
-put-named-requires-3 : tie.Need-put-named-requires-3
-put-named-requires-3 c κs = search needs
+put-counted-requires-2 : tie.Need-put-counted-requires-2
+put-counted-requires-2 c κs = search needs
 
 enum-known-reply-4 : tie.Need-enum-known-reply-4
 enum-known-reply-4 c = search needs
@@ -45,7 +45,7 @@ same-length : tie.Need-same-length
 same-length c = search needs
 
 returns : tie.Need-returns
-unfolding ascii line last-line
+unfolding ascii line refusal-line last-line
 returns c = search (needs, last-line-laws)
 
 same-length-2 : tie.Need-same-length-2
@@ -78,11 +78,11 @@ put-last-line-spec =
     cast-put-named
     put-named-requires
     enum-known-reply-2
-    slice-aggregate-put-named-2
-    put-named-requires-2
+    slice-aggregate-put-counted
+    put-counted-requires
     enum-known-reply-3
-    slice-aggregate-put-named-3
-    put-named-requires-3
+    slice-aggregate-put-counted-2
+    put-counted-requires-2
     enum-known-reply-4
     put-fault-line-requires
     same-length

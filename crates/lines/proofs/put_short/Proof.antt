@@ -1,6 +1,6 @@
 -- `put_short` meets its contract. Assumes nothing.
 use borrow.Author.Needs.{needs}
-use Rattle.lines.proofs.LineLaws.{two-digits-laws}
+use Rattle.lines.proofs.LineLaws.{short-laws}
 use Rattle.lines.proofs.put_short.Statement.{statement}
 use Rattle.lines.proofs.put_short.Tie as tie
 
@@ -32,7 +32,7 @@ same-length-2 : tie.Need-same-length-2
 same-length-2 c = search needs
 
 returns-2 : tie.Need-returns-2
-returns-2 c = search (needs, two-digits-laws)
+returns-2 c = search (needs, short-laws)
 
 cast-put-number : tie.Need-cast-put-number
 cast-put-number c = search needs
@@ -44,7 +44,7 @@ same-length-3 : tie.Need-same-length-3
 same-length-3 c = search needs
 
 returns-3 : tie.Need-returns-3
-returns-3 c = search needs
+returns-3 c = search (needs, short-laws)
 
 pub put-short-spec : {M : Type 1} → statement M
 put-short-spec =

@@ -30,7 +30,7 @@ same-length-3 : tie.Need-same-length-3
 same-length-3 c = search needs
 
 returns-2 : tie.Need-returns-2
-returns-2 c = run-whole _ _ _ _ _ _ (c .before .before .before .before .before .before .before .before .before .before .before .start-answer .ensures) _ (c .before .before .before .before .before .before .before .before .before .before .if1 .left) _ _ _ _ (c .before .before .before .before .before .before .run .ensures .0) (c .before .before .before .before .before .before .run .ensures .1) (c .answer-of2 .ensures)
+returns-2 c = run-whole _ _ _ _ _ _ (c .before .before .before .before .before .before .before .before .before .before .before .start-answer .ensures) _ (c .before .before .before .before .before .before .before .before .before .before .if1 .left) _ _ _ _ (c .before .before .before .before .before .before .run .ensures .0) (c .before .before .before .before .before .before .run .ensures .1) (c .before .before .before .before .before .before .run .ensures .2) (c .answer-of2 .ensures)
 
 pub run-spec : {M : Type 1} → statement M
 run-spec =
