@@ -7,11 +7,12 @@ ghost use Rattle.model.specs.Words.{instruction-in, descriptor-in};
 ghost use Rattle.model.specs.Questions.{all, pointer-in-range};
 ghost use Rattle.model.specs.Step as Step;
 ghost use Rattle.words.specs.View.{as-pointer, Pointer-within};
-ghost use Rattle.segments.specs.View.{as-dbr, as-pointers, as-registers};
+ghost use Rattle.segments.specs.Translation.{as-dbr};
+ghost use Rattle.state.specs.View.{as-pointers, as-registers};
 ghost use Rattle.addressing.specs.Address.{Addressed};
 use segments::access::Accessed;
-use segments::questions::Use;
-use segments::state::Core;
+use questions::Use;
+use state::Core;
 use segments::translate::Dbr;
 use words::descriptor::Descriptor;
 use words::pointer::Pointer;
@@ -29,7 +30,7 @@ fn next_address(t: Pointer, d: Descriptor, w: u64) -> Pointer
 {
     let mut p = words::pointer::decode(w);
     let r1 = words::descriptor::r1_of(d);
-    p.ring = segments::state::larger(segments::state::larger(t.ring, r1), p.ring);
+    p.ring = state::larger(state::larger(t.ring, r1), p.ring);
     p
 }
 
@@ -67,9 +68,9 @@ pub fn first_address(core: Core, prs: &[u16; 24], w: u64) -> Pointer
     let ipr = core.ipr;
     let by = words::instruction::offset(w);
     if !words::instruction::is_by_pr(w) {
-        return segments::state::moved(ipr, by);
+        return state::moved(ipr, by);
     }
-    let mut p = segments::prs::pr(prs, words::instruction::prnum(w));
-    p.ring = segments::state::larger(ipr.ring, p.ring);
-    segments::state::moved(p, by)
+    let mut p = state::prs::pr(prs, words::instruction::prnum(w));
+    p.ring = state::larger(ipr.ring, p.ring);
+    state::moved(p, by)
 }

@@ -26,8 +26,8 @@ use Rattle.words.specs.declared.pointer.Pointer as Code
 use Rattle.run.specs.declared.Reply.{Reply}
 use Rattle.run.specs.declared.Reply.the-variants.{Refused, Spent, Halted, Fault}
 use Rattle.run.specs.Run.{as-reply, Reply-within, completed, step-in, noted-steps}
-use Rattle.segments.specs.View.{as-machine}
-use Rattle.segments.specs.declared.state.Core.{Core}
+use Rattle.state.specs.View.{as-machine}
+use Rattle.state.specs.declared.Core.{Core}
 use Rattle.machine.specs.declared.Answered.{Answered}
 use Rattle.machine.specs.Answered.{Answered-as, reply-in, Replies}
 use Rattle.machine.proofs.AnswerLaws.{reply-of-numbers, count-completed}

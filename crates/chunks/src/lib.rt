@@ -4,7 +4,7 @@ ghost use Prim.Native.Nat.{_+_, _*_, _/_, _^_, _≤_, _<_};
 ghost use lib.ListN.{length, take};
 ghost use Rattle.model.specs.Questions.{start-questions};
 ghost use Rattle.model.specs.Listing.{step-line, step-lines};
-ghost use Rattle.segments.specs.View.{as-machine};
+ghost use Rattle.state.specs.View.{as-machine};
 ghost use Rattle.run.specs.Run.{Reply-within, completed, step-in, noted-steps};
 ghost use Rattle.text.specs.Text.{Put};
 ghost use Rattle.lines.specs.Kept.{Kept};
@@ -12,7 +12,7 @@ ghost use Rattle.chunks.specs.Chunk.{Few, ends-run, ending, Chunk-writte
 use lines::Number;
 use run::Ran;
 use run::Reply;
-use segments::state::Core;
+use state::Core;
 
 // Where lines end, whether the last of them ends the listing, and the pointer words of the run so far.
 pub struct Line {

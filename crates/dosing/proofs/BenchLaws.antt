@@ -15,7 +15,7 @@ use Rattle.model.specs.Listing.{listing}
 use Rattle.model.proofs.ImageLaws.{checked-refused, checked-passed}
 use Rattle.model.specs.Bench as Bench
 use Rattle.model.specs.Bench.{call-refused, call-wrote, bench-on, bench}
-use Rattle.segments.specs.View.{as-machine}
+use Rattle.state.specs.View.{as-machine}
 use Rattle.host.specs.declared.record.Registers as Host
 use Rattle.host.specs.Record.{registers-of, machine-of}
 use Rattle.machine.specs.declared.Prepared.{Prepared}

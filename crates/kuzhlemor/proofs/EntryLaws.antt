@@ -16,7 +16,8 @@ use Rattle.model.proofs.CountedLaws.{total-within}
 use Rattle.model.proofs.CountLaws.{single-step-runs}
 use Rattle.words.specs.View.{as-pointer}
 use Rattle.words.specs.declared.pointer.Pointer as Core
-use Rattle.segments.specs.View.{as-dbr, as-machine}
+use Rattle.segments.specs.Translation.{as-dbr}
+use Rattle.state.specs.View.{as-machine}
 use Rattle.segments.specs.declared.translate.Dbr.{Dbr}
 use Rattle.host.specs.Record.{pointer-of, base-of, machine-of, In-record}
 use Rattle.host.specs.declared.record.DescriptorBase.{DescriptorBase}

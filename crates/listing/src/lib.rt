@@ -3,11 +3,11 @@ ghost use mathlib.Core.Path.{_≡_};
 ghost use Prim.Native.Nat.{_+_, _*_, _≤_, _<_, min};
 ghost use lib.ListN.{length};
 ghost use Rattle.model.specs.Questions.{start-questions};
-ghost use Rattle.segments.specs.View.{as-machine};
+ghost use Rattle.state.specs.View.{as-machine};
 ghost use Rattle.listing.specs.Lines.{Lines-written, Whole-listing};
 use chunks::Line;
 use run::Reply;
-use segments::state::Core;
+use state::Core;
 
 fn smaller(x: usize, y: usize) -> usize
     ensures { λ r. ⌜ r ≡ min x y ⌝ }

@@ -16,8 +16,8 @@ use Rattle.model.proofs.QuestionLaws.{ask-yes}
 use Rattle.model.proofs.RunLaws.{run-refused, run-goes, trace-refused, trace-goes}
 use Rattle.words.specs.View.{as-pointer, Pointer-within}
 use Rattle.words.specs.declared.pointer.Pointer.{Pointer}
-use Rattle.segments.specs.View.{as-pointers, as-machine}
-use Rattle.segments.specs.declared.state.Core.{Core}
+use Rattle.state.specs.View.{as-pointers, as-machine}
+use Rattle.state.specs.declared.Core.{Core}
 use Rattle.host.specs.Record.{In-record}
 use Rattle.run.specs.Run.{as-reply, Reply-within, completed, noted-steps, Ran-as, Traced, Counted}
 use Rattle.run.specs.declared.Ran.{Ran}

@@ -10,8 +10,8 @@ use Rattle.model.specs.Questions.{start-questions}
 use Rattle.model.specs.Run as Run
 use Rattle.model.specs.Run.{ran, run-from, run}
 use Rattle.model.proofs.RunLaws.{run-refused, run-goes}
-use Rattle.segments.specs.View.{as-machine}
-use Rattle.segments.specs.declared.state.Core.{Core}
+use Rattle.state.specs.View.{as-machine}
+use Rattle.state.specs.declared.Core.{Core}
 use Rattle.host.specs.declared.record.Registers.{Registers}
 use Rattle.host.specs.Record.{machine-of, Converted}
 use Rattle.machine.specs.Answered.{as-numbers, Answered-as, Prepared-as}

@@ -9,8 +9,8 @@ use Rattle.model.specs.Answers.{Numbers, reply-numbers}
 use Rattle.model.specs.Questions.{start-questions}
 use Rattle.model.specs.Run as Run
 use Rattle.words.specs.View.{as-pointer, Pointer-within}
-use Rattle.segments.specs.View.{as-machine}
-use Rattle.segments.specs.declared.state.Core.{Core}
+use Rattle.state.specs.View.{as-machine}
+use Rattle.state.specs.declared.Core.{Core}
 use Rattle.host.specs.Record.{machine-of, In-record}
 use Rattle.host.specs.declared.record.Registers.{Registers}
 use Rattle.run.specs.Run.{as-reply, Reply-within, noted-steps}

@@ -5,7 +5,7 @@ ghost use Rattle.run.specs.Run.{as-reply, Reply-within};
 ghost use Rattle.machine.specs.Answered.{core-of, Answers-with, Answered-as, Answer-fits, Replies, Prepared-as};
 use host::record::Registers;
 use run::Reply;
-use segments::state::Core;
+use state::Core;
 use segments::translate::Dbr;
 use words::pointer::Pointer;
 use words::pointer::SegmentNumber;

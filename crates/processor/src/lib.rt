@@ -4,12 +4,12 @@ ghost use mathlib.Core.Bool.{true};
 ghost use lib.ListN.{length};
 ghost use Rattle.model.specs.Questions.{all, pointer-in-range};
 ghost use Rattle.segments.specs.Translation.{Code-right};
-ghost use Rattle.segments.specs.View.{as-pointers, as-machine, Ready};
+ghost use Rattle.state.specs.View.{as-pointers, as-machine, Ready};
 ghost use Rattle.processor.specs.Step.{operand-formed, formed, quickly-formed};
 use addressing::Address;
 use segments::access::Accessed;
-use segments::questions::Use;
-use segments::state::Core;
+use questions::Use;
+use state::Core;
 use words::descriptor::Descriptor;
 use words::pointer::Pointer;
 

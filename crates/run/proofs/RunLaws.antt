@@ -26,11 +26,11 @@ use Rattle.model.proofs.RunLaws.{run-faults, run-halts, run-completes, trace-fa
 use Rattle.words.specs.View.{as-pointer, Pointer-within}
 use Rattle.words.specs.declared.pointer.Pointer.{Pointer}
 use Rattle.words.specs.declared.descriptor.Descriptor.{Descriptor}
-use Rattle.segments.specs.declared.state.Core.{Core}
-use Rattle.segments.specs.declared.state.After.{After}
-use Rattle.segments.specs.declared.state.End.{End}
-use Rattle.segments.specs.declared.state.End.the-variants.{Completed, Halted, Faulted}
-use Rattle.segments.specs.View.{as-pointers, as-machine, Ready, ended, Does}
+use Rattle.state.specs.declared.Core.{Core}
+use Rattle.state.specs.declared.After.{After}
+use Rattle.state.specs.declared.End.{End}
+use Rattle.state.specs.declared.End.the-variants.{Completed, Halted, Faulted}
+use Rattle.state.specs.View.{as-pointers, as-machine, Ready, ended, Does}
 use Rattle.dispatch.specs.Dispatch.{dispatched-in}
 use Rattle.processor.specs.Step.{Ready-to-perform}
 use Rattle.run.specs.Run.{as-reply, Reply-within, completed, Ran-as, noted-steps, Noted, Traced, Counted, On-the-way, At-the-end}

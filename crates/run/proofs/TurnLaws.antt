@@ -15,9 +15,9 @@ use Rattle.model.proofs.ProgramLaws.{Size-kept, execute-keeps-size}
 use Rattle.words.specs.View.{as-pointer, Pointer-within}
 use Rattle.words.specs.declared.pointer.Pointer.{Pointer}
 use Rattle.segments.specs.Translation.{Code-right}
-use Rattle.segments.specs.declared.state.After.{After}
-use Rattle.segments.specs.declared.state.End.the-variants.{Completed, Halted, Faulted}
-use Rattle.segments.specs.View.{as-pointers, as-machine, Ready, ended, Does}
+use Rattle.state.specs.declared.After.{After}
+use Rattle.state.specs.declared.End.the-variants.{Completed, Halted, Faulted}
+use Rattle.state.specs.View.{as-pointers, as-machine, Ready, ended, Does}
 use Rattle.dispatch.specs.Dispatch.{dispatched-in}
 use Rattle.processor.specs.Step.{Ready-to-perform, quickly-formed}
 use Rattle.processor.specs.declared.Prepared.{Prepared}

@@ -9,8 +9,8 @@ use Rattle.model.specs.Registers.{Machine}
 use Rattle.model.specs.Questions.{start-questions}
 use Rattle.model.specs.Run as Run
 use Rattle.words.specs.View.{as-pointer, Pointer-within}
-use Rattle.segments.specs.declared.state.End.{End}
-use Rattle.segments.specs.declared.state.End.the-variants as End
+use Rattle.state.specs.declared.End.{End}
+use Rattle.state.specs.declared.End.the-variants as End
 use Rattle.processor.specs.Step.{Ready-to-perform}
 use Rattle.processor.specs.declared.Prepared.{Prepared}
 use Rattle.processor.specs.declared.Prepared.the-variants as Prepared

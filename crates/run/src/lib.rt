@@ -7,14 +7,14 @@ ghost use Rattle.model.specs.Questions.{start-questions};
 ghost use Rattle.model.specs.Run as Run;
 ghost use Rattle.words.specs.View.{as-pointer, Pointer-within};
 ghost use Rattle.segments.specs.Translation.{Code-right};
-ghost use Rattle.segments.specs.View.{as-machine};
+ghost use Rattle.state.specs.View.{as-machine};
 ghost use Rattle.processor.specs.Step.{Ready-to-perform, quickly-formed};
 ghost use Rattle.run.specs.Run.{Counted, Noted, Ran-as, Traced, Went-as, next-formed};
 use processor::Formed;
 use processor::Prepared;
-use segments::state::After;
-use segments::state::Core;
-use segments::state::End;
+use state::After;
+use state::Core;
+use state::End;
 use words::descriptor::Descriptor;
 use words::pointer::Pointer;
 

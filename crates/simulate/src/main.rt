@@ -2,7 +2,7 @@
 ghost use mathlib.Core.Path.{_≡_};
 ghost use lib.ListN.{replicate};
 ghost use Rattle.model.specs.Questions.{start-questions};
-ghost use Rattle.segments.specs.View.{as-machine};
+ghost use Rattle.state.specs.View.{as-machine};
 ghost use Rattle.simulate.specs.Read.{Ready-within};
 use chunks::Line;
 use host::record::Registers;
@@ -10,7 +10,7 @@ use image::load::LoadOutcome;
 use image::load::Loaded;
 use libc::STDOUT_FILENO;
 use listing::Listed;
-use segments::state::Core;
+use state::Core;
 
 // Reads and loads until an image is whole or refused; `More` means that the input can't be read.
 fn read_image(store: &mut [u64]) -> Loaded

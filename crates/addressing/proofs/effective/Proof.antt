@@ -7,7 +7,7 @@ use Rattle.addressing.proofs.ChainLaws.{chains}
 use Rattle.addressing.proofs.effective.Statement.{statement}
 use Rattle.addressing.proofs.effective.Tie as tie
 use Rattle.addressing.specs.Address.{through}
-use Rattle.segments.specs.View.{as-dbr}
+use Rattle.segments.specs.Translation.{as-dbr}
 use Rattle.words.specs.View.{as-pointer, Pointer-within}
 
 abbrev Inv-loop : tie.InvT-loop

@@ -6,7 +6,7 @@ use Prim.Native.Nat.{_-_, _*_, _≤_}
 use lib.ListN.{length, take, drop}
 use borrow.Author.Needs.{needs}
 use Rattle.model.specs.Questions.{start-questions}
-use Rattle.segments.specs.View.{as-machine}
+use Rattle.state.specs.View.{as-machine}
 use Rattle.chunks.specs.Chunk.{text-from}
 use Rattle.listing.proofs.ListedLaws.{lines-of-a-run, next-far, next-few}
 use Rattle.listing.proofs.list.Statement.{statement}

@@ -4,7 +4,7 @@ use borrow.Author.Needs.{needs}
 use Rattle.run.proofs.TurnLaws.{Turning, turning-starts, memory-size, trace-size, turn-ends, turn-below, turn-part, turn-pointers, turn-needs, turn-passes, turn-ipr, turn-faults, turn-halts, turn-code, turn-stops, turn-goes-on}
 use Rattle.run.proofs.go_on.Statement.{statement}
 use Rattle.run.proofs.go_on.Tie as tie
-use Rattle.segments.specs.View.{as-machine}
+use Rattle.state.specs.View.{as-machine}
 
 abbrev Inv-loop : tie.InvT-loop
 Inv-loop prs₀ memory₀ first read start budget trace₀ x₀ w₀ t₀ pointers₀ count₀ going₀ prs memory trace x w t pointers count going =

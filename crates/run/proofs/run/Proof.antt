@@ -7,7 +7,7 @@ use Rattle.run.proofs.RunLaws.{prs-in-range, ready-passing, way-starts,
 use Rattle.run.proofs.run.Statement.{statement}
 use Rattle.run.proofs.run.Tie as tie
 use Rattle.run.specs.Run.{On-the-way}
-use Rattle.segments.specs.View.{as-machine}
+use Rattle.state.specs.View.{as-machine}
 
 abbrev Inv-loop : tie.InvT-loop
 Inv-loop prs₀ memory₀ budget trace₀ at₀ count₀ total₀ prs memory trace at count total =

@@ -3,7 +3,7 @@ use mathlib.Core.Path.{_≡_}
 use Prim.Native.Nat.{_*_, _≤_}
 use lib.ListN.{length}
 use Rattle.model.specs.Questions.{start-questions}
-use Rattle.segments.specs.View.{as-machine}
+use Rattle.state.specs.View.{as-machine}
 use borrow.Author.Needs.{needs}
 use Rattle.simulate.proofs.PrintLaws.{goes-on-few, prints}
 use Rattle.simulate.proofs.print_listing.Statement.{statement}
