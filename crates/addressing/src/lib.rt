@@ -10,10 +10,10 @@ ghost use Rattle.words.specs.View.{as-pointer, Pointer-within};
 ghost use Rattle.segments.specs.Translation.{as-dbr};
 ghost use Rattle.state.specs.View.{as-pointers, as-registers};
 ghost use Rattle.addressing.specs.Address.{Addressed};
-use segments::access::Accessed;
 use questions::Use;
-use state::Core;
+use segments::access::Accessed;
 use segments::translate::Dbr;
+use state::Core;
 use words::descriptor::Descriptor;
 use words::pointer::Pointer;
 

@@ -119,7 +119,7 @@ fn put_ending(text: &mut [u8], at: usize, count: u32, total: u64, reply: Reply) 
 {
     match reply {
         Reply::Refused(n) => Ending {
-            length: lines::put_last_line(text, at, Reply::Refused(n), total),
+            length: endings::put_last_line(text, at, Reply::Refused(n), total),
             is_last: true,
         },
         Reply::Spent(_steps) => Ending {
@@ -127,11 +127,11 @@ fn put_ending(text: &mut [u8], at: usize, count: u32, total: u64, reply: Reply) 
             is_last: false,
         },
         Reply::Halted(steps) => Ending {
-            length: lines::put_last_line(text, at, Reply::Halted(count + steps), total),
+            length: endings::put_last_line(text, at, Reply::Halted(count + steps), total),
             is_last: true,
         },
         Reply::Fault(n, steps, t) => Ending {
-            length: lines::put_last_line(text, at, Reply::Fault(n, count + steps, t), total),
+            length: endings::put_last_line(text, at, Reply::Fault(n, count + steps, t), total),
             is_last: true,
         },
     }

@@ -13,7 +13,8 @@ use Rattle.text.proofs.TextLaws.{take-placed, placed-over}
 use Rattle.text.proofs.DecimalLaws.{by-ten, decimal-digit, decimal-last, decimal-not-empty, length-decimal-most}
 use Rattle.lines.specs.declared.Number.{Number}
 use Rattle.lines.specs.Kept.{tens-of, Kept}
-use Rattle.lines.proofs.LineLaws.{ended, length-of-step-line}
+use Rattle.parts.proofs.PartLaws.{ended}
+use Rattle.lines.proofs.LineLaws.{length-of-step-line}
 
 -- a number's tens, and its digits from them
 no-tens : (v : ℕ) → v < 10 → tens-of v ≡ []

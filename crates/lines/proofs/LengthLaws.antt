@@ -7,7 +7,8 @@ use Rattle.model.specs.Words.{Pointer}
 use Rattle.model.specs.Run.{Reply, refused, spent, halted, fault, Traced}
 use Rattle.model.specs.Listing.{ascii, decimal, line, step-line, refusal-line, last-line}
 use Rattle.text.proofs.DecimalLaws.{length-decimal-most}
-use Rattle.lines.proofs.LineLaws.{ended, length-of-step-line}
+use Rattle.parts.proofs.PartLaws.{ended}
+use Rattle.lines.proofs.LineLaws.{length-of-step-line}
 
 -- what the code's types and `Pointer-within` say of a pointer, and of a reply's numbers
 pub record Small-pointer (p : Pointer) : Type 0 where

@@ -70,7 +70,7 @@ pub fn list(
     }
     let length = x.length;
     if 64 <= text.len() - length {
-        x.length = lines::put_last_line(text, length, Reply::Spent(done), x.total);
+        x.length = endings::put_last_line(text, length, Reply::Spent(done), x.total);
         x.is_last = true;
     }
     Listed {

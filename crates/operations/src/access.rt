@@ -10,11 +10,11 @@ ghost use Rattle.words.specs.View.{as-pointer};
 ghost use Rattle.opcodes.specs.Table.{result};
 ghost use Rattle.segments.specs.Translation.{as-dbr};
 ghost use Rattle.state.specs.View.{Ready, Does-with-any-prs};
-use segments::access::Accessed;
 use questions::Use;
+use segments::access::Accessed;
+use segments::translate::Dbr;
 use state::After;
 use state::Core;
-use segments::translate::Dbr;
 use words::descriptor::Descriptor;
 use words::pointer::Pointer;
 

@@ -15,10 +15,7 @@ use words::pointer::Pointer;
 pub fn load_literal(core: Core, code: Descriptor, w: u64) -> After
     ensures { λ x. ⌜ Finishes-with-any-prs core code (Registers.with-a (instruction-in w .lit)) x ⌝ }
 {
-    state::completed(
-        state::with_a(core, words::instruction::literal(w)),
-        code,
-    )
+    state::completed(state::with_a(core, words::instruction::literal(w)), code)
 }
 
 // EAP: the target is not checked.

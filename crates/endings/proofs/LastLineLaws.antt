@@ -13,19 +13,9 @@ use Rattle.run.specs.declared.Reply.{Reply}
 use Rattle.run.specs.declared.Reply.the-variants.{Fault}
 use Rattle.text.specs.Text.{placed}
 use Rattle.text.proofs.TextLaws.{length-placed, next-after, put-after}
-use Rattle.lines.specs.Spaced.{spaced-pointer}
-use Rattle.lines.proofs.LineLaws.{ended, next-after-step-line, step-line-put-in}
-
--- a name and a number
-module _ (a b c v y : ℕ) (name t u w : List ℕ) where
-  pub next-after-named : b ≡ a + length name → c ≡ b + length (ended v y) → c ≡ a + length (name ++ ended v y)
-  next-after-named q s = next-after a b c name (ended v y) q s
-
-  pub named-put : u ≡ placed a name t → b ≡ a + length name → w ≡ placed b (ended v y) u → c ≡ b + length (ended v y) → c ≤ b + 11
-      → length name ≤ 8 → a + 19 ≤ length t → w ≡ placed a (name ++ ended v y) t
-  named-put p q r s l k h = put-after a b c name (ended v y) t u w p q r s (omega arith)
-
-pub ruleset named-laws = (next-after-named, named-put)
+use Rattle.parts.specs.Spaced.{spaced-pointer}
+use Rattle.parts.proofs.PartLaws.{ended}
+use Rattle.lines.proofs.LineLaws.{next-after-step-line, step-line-put-in}
 
 -- a name, a count and a total
 module _ (a b c v k : ℕ) (name t u w : List ℕ) (q : b ≡ a + length (name ++ ended v 32)) (s : c ≡ b + length (ended k 10)) where

@@ -1,9 +1,9 @@
 -- `put_fault_line` meets its contract. Assumes nothing.
 use borrow.Author.Needs.{needs}
 use Rattle.model.specs.Listing.{ascii}
-use Rattle.lines.proofs.LastLineLaws.{next-after-fault-line, fault-line-put}
-use Rattle.lines.proofs.put_fault_line.Statement.{statement}
-use Rattle.lines.proofs.put_fault_line.Tie as tie
+use Rattle.endings.proofs.LastLineLaws.{next-after-fault-line, fault-line-put}
+use Rattle.endings.proofs.put_fault_line.Statement.{statement}
+use Rattle.endings.proofs.put_fault_line.Tie as tie
 
 slice-aggregate-put-bytes : tie.Need-slice-aggregate-put-bytes
 slice-aggregate-put-bytes c = search needs

@@ -1,8 +1,8 @@
 -- `put_named` meets its contract. Assumes nothing.
 use borrow.Author.Needs.{needs}
-use Rattle.lines.proofs.LastLineLaws.{named-laws}
-use Rattle.lines.proofs.put_named.Statement.{statement}
-use Rattle.lines.proofs.put_named.Tie as tie
+use Rattle.parts.proofs.PartLaws.{named-laws}
+use Rattle.parts.proofs.put_named.Statement.{statement}
+use Rattle.parts.proofs.put_named.Tie as tie
 
 put-bytes-requires : tie.Need-put-bytes-requires
 put-bytes-requires c κs = search needs

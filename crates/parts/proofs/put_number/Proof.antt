@@ -1,8 +1,8 @@
 -- `put_number` meets its contract. Assumes nothing.
 use borrow.Author.Needs.{needs}
-use Rattle.lines.proofs.LineLaws.{number-laws}
-use Rattle.lines.proofs.put_number.Statement.{statement}
-use Rattle.lines.proofs.put_number.Tie as tie
+use Rattle.parts.proofs.PartLaws.{number-laws}
+use Rattle.parts.proofs.put_number.Statement.{statement}
+use Rattle.parts.proofs.put_number.Tie as tie
 
 put-decimal-requires : tie.Need-put-decimal-requires
 put-decimal-requires c κs = search needs

@@ -1,8 +1,8 @@
 -- `put_digit` meets its contract. Assumes nothing.
 use borrow.Author.Needs.{needs}
-use Rattle.lines.proofs.LineLaws.{one-digit-laws}
-use Rattle.lines.proofs.put_digit.Statement.{statement}
-use Rattle.lines.proofs.put_digit.Tie as tie
+use Rattle.parts.proofs.PartLaws.{one-digit-laws}
+use Rattle.parts.proofs.put_digit.Statement.{statement}
+use Rattle.parts.proofs.put_digit.Tie as tie
 
 add-text : tie.Need-add-text
 add-text c = search needs

@@ -4,9 +4,9 @@ use Prim.Native.Nat.{_-_, _≤_}
 use lib.ListN.{length, take}
 use borrow.Author.Needs.{needs}
 use Rattle.text.specs.Text.{placed}
-use Rattle.lines.proofs.BytesLaws.{bytes-laws}
-use Rattle.lines.proofs.put_bytes.Statement.{statement}
-use Rattle.lines.proofs.put_bytes.Tie as tie
+use Rattle.parts.proofs.BytesLaws.{bytes-laws}
+use Rattle.parts.proofs.put_bytes.Statement.{statement}
+use Rattle.parts.proofs.put_bytes.Tie as tie
 
 abbrev Inv-loop : tie.InvT-loop
 Inv-loop text₀ at bytes i₀ text i = (i ≤ length bytes) × (length text ≡ length text₀) × (text ≡ placed at (take i bytes) text₀)

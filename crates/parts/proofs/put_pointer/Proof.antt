@@ -1,8 +1,8 @@
 -- `put_pointer` meets its contract. Assumes nothing.
 use borrow.Author.Needs.{needs}
-use Rattle.lines.proofs.LineLaws.{pointer-laws}
-use Rattle.lines.proofs.put_pointer.Statement.{statement}
-use Rattle.lines.proofs.put_pointer.Tie as tie
+use Rattle.parts.proofs.PartLaws.{pointer-laws}
+use Rattle.parts.proofs.put_pointer.Statement.{statement}
+use Rattle.parts.proofs.put_pointer.Tie as tie
 
 put-digit-requires : tie.Need-put-digit-requires
 put-digit-requires c κs = search needs

@@ -1,8 +1,8 @@
 -- `put_counted` meets its contract. Assumes nothing.
 use borrow.Author.Needs.{needs}
-use Rattle.lines.proofs.LastLineLaws.{counted-laws}
-use Rattle.lines.proofs.put_counted.Statement.{statement}
-use Rattle.lines.proofs.put_counted.Tie as tie
+use Rattle.endings.proofs.LastLineLaws.{counted-laws}
+use Rattle.endings.proofs.put_counted.Statement.{statement}
+use Rattle.endings.proofs.put_counted.Tie as tie
 
 put-named-requires : tie.Need-put-named-requires
 put-named-requires c κs = search needs

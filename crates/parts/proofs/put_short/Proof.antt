@@ -1,8 +1,8 @@
 -- `put_short` meets its contract. Assumes nothing.
 use borrow.Author.Needs.{needs}
-use Rattle.lines.proofs.LineLaws.{short-laws}
-use Rattle.lines.proofs.put_short.Statement.{statement}
-use Rattle.lines.proofs.put_short.Tie as tie
+use Rattle.parts.proofs.PartLaws.{short-laws}
+use Rattle.parts.proofs.put_short.Statement.{statement}
+use Rattle.parts.proofs.put_short.Tie as tie
 
 put-digit-requires : tie.Need-put-digit-requires
 put-digit-requires c κs = search needs

@@ -1,9 +1,9 @@
 -- `put_last_line` meets its contract. Assumes nothing.
 use borrow.Author.Needs.{needs}
 use Rattle.model.specs.Listing.{ascii, line, refusal-line, last-line}
-use Rattle.lines.proofs.LastLineLaws.{last-line-laws}
-use Rattle.lines.proofs.put_last_line.Statement.{statement}
-use Rattle.lines.proofs.put_last_line.Tie as tie
+use Rattle.endings.proofs.LastLineLaws.{last-line-laws}
+use Rattle.endings.proofs.put_last_line.Statement.{statement}
+use Rattle.endings.proofs.put_last_line.Tie as tie
 
 enum-known-reply : tie.Need-enum-known-reply
 enum-known-reply c = search needs

@@ -1,8 +1,8 @@
 -- `put_total` meets its contract. Assumes nothing.
 use borrow.Author.Needs.{needs}
-use Rattle.lines.proofs.LineLaws.{number-laws}
-use Rattle.lines.proofs.put_total.Statement.{statement}
-use Rattle.lines.proofs.put_total.Tie as tie
+use Rattle.parts.proofs.PartLaws.{number-laws}
+use Rattle.parts.proofs.put_total.Statement.{statement}
+use Rattle.parts.proofs.put_total.Tie as tie
 
 put-decimal-64-requires : tie.Need-put-decimal-64-requires
 put-decimal-64-requires c κs = search needs
