@@ -37,17 +37,17 @@ use denote.Triple.Call.{calls-at}
 use denote.Triple.Clauses.{atExit, ensured, lasts, Lasts}
 use denote.Triple.Table.{entered, cited}
 use denote.Triple.Walked.{says}
-use Rattle.kuzhlemor.specs.Entry.{Call-says}
+use Rattle.entry.specs.Call.{Call-says}
 use Rattle.kuzhlemor.proofs.EntryLaws.{as-step}
 use Rattle.host.specs.declared.record.Registers.{Registers}
-use Rattle.kuzhlemor.specs.declared.Answer.{Answer}
+use Rattle.entry.specs.declared.Answer.{Answer}
 use Rattle.host.proofs.record.Registers as T
-use Rattle.kuzhlemor.proofs.Answer as E
-use Rattle.kuzhlemor.proofs.Answer.Laws as E′
-use Rattle.kuzhlemor.proofs.call as callee
-use Rattle.kuzhlemor.proofs.call.Symbol as callee-symbol
-use Rattle.kuzhlemor.proofs.call.Symbol.{name as #kuzhlemor·call}
-use Rattle.kuzhlemor.proofs.call.Met as callee-met
+use Rattle.entry.proofs.Answer as E
+use Rattle.entry.proofs.Answer.Laws as E′
+use Rattle.entry.proofs.call as callee
+use Rattle.entry.proofs.call.Symbol as callee-symbol
+use Rattle.entry.proofs.call.Symbol.{name as #entry·call}
+use Rattle.entry.proofs.call.Met as callee-met
 use Rattle.kuzhlemor.proofs.kuzhlemor_step.Key.{name as #kuzhlemor·kuzhlemor-step}
 use Rattle.kuzhlemor.proofs.kuzhlemor_step as f
 use Rattle.kuzhlemor.proofs.kuzhlemor_step.Statement as stated
@@ -96,7 +96,7 @@ module _ {M : Type 1} (𝓤 : URA M) (H : Heap 𝓤) (A : Atoms 𝓤) (W : Given
       -- [the record's last value, the memory's, …]
       fsplit ! $ move ! (1 ∷ []) $ fsplit ! $ nothing ! $ move ! (1 ∷ 0 ∷ []) $ fjoin ! $ move ! (2 ∷ 0 ∷ []) $ fjoin ! $ keep ! (0 ∷ []) $ done !))
 
-  walk : (𝓣 : Tables 𝓤 H) → Triple 𝓤 (𝓣 .C #kuzhlemor·call) (Callee 𝓤 H A at-mem run) → Room u64 (length (y .now)) → ent 𝓤 Entry (WpFn 𝓤 H (𝓣 .C) (𝓣 .Λ) code.function (flat (typesAt (f.signature .params) κs) vals) (Own 𝓤 H A at-mem run .post here))
+  walk : (𝓣 : Tables 𝓤 H) → Triple 𝓤 (𝓣 .C #entry·call) (Callee 𝓤 H A at-mem run) → Room u64 (length (y .now)) → ent 𝓤 Entry (WpFn 𝓤 H (𝓣 .C) (𝓣 .Λ) code.function (flat (typesAt (f.signature .params) κs) vals) (Own 𝓤 H A at-mem run .post here))
   walk 𝓣 known room =
       qed W (raw Entry ∷ []) ∵ enter ! (𝓣 .C) (𝓣 .Λ) code.function _ _ $
       alloc1 ! (λ l₀. alloc1 ! (λ l₁. alloc1 ! (λ l₂. alloc1 ! (λ l₃. alloc1 ! (λ l₄. alloc1 ! (λ l₅. alloc0 ! $ params1 ! $
@@ -115,7 +115,7 @@ module _ {M : Type 1} (𝓤 : URA M) (H : Heap 𝓤) (A : Atoms 𝓤) (W : Given
       move ! (13 ∷ 14 ∷ []) $ free1 ! $ move ! (11 ∷ 12 ∷ []) $ free1 ! $ move ! (9 ∷ 10 ∷ []) $ free1 ! $ move ! (7 ∷ 8 ∷ []) $ free1 ! $ move ! (5 ∷ 6 ∷ []) $ free1 ! $ move ! (3 ∷ 4 ∷ []) $ free1 ! $ free0 ! $
       updating ! $ at-once ! $ show ! (λ (r′ : Answer). sep 𝓤 (Back 𝓤 H A f.signature (here .0) w r′) (Stepped r′)) r $ move ! (1 ∷ 0 ∷ []) $ join ! $ frame ! $ by ! (told r))))))))))
 
-kuzhlemor-step-meets : {M : Type 1} (𝓤 : URA M) (H : Heap 𝓤) (A : Atoms 𝓤) → Given 𝓤 H A → (at-mem : Memory → SProp 𝓤) (run : Routine → Fun 𝓤) (𝓣 : Tables 𝓤 H) → Triple 𝓤 (𝓣 .C #kuzhlemor·call) (Callee 𝓤 H A at-mem run)
+kuzhlemor-step-meets : {M : Type 1} (𝓤 : URA M) (H : Heap 𝓤) (A : Atoms 𝓤) → Given 𝓤 H A → (at-mem : Memory → SProp 𝓤) (run : Routine → Fun 𝓤) (𝓣 : Tables 𝓤 H) → Triple 𝓤 (𝓣 .C #entry·call) (Callee 𝓤 H A at-mem run)
     → Triple 𝓤 (WpFn 𝓤 H (𝓣 .C) (𝓣 .Λ) code.function) (Own 𝓤 H A at-mem run)
 kuzhlemor-step-meets 𝓤 H A W at-mem run 𝓣 known ((κs, qs, bounds, a, vss), g) = via 𝓤 _ (fst∗ 𝓤 _ (emp 𝓤))
     (said 𝓤 H A f.signature κs qs (ptr-vals, (slice-vals, tt)) (mut-tells (named 0) (κs .0) T.the-row, (mut-slice-tells (named 1) (κs .1 .0) u64, tt)) a
@@ -127,4 +127,4 @@ unfolding code.routine tablesOf
 kuzhlemor-step-spec 𝓤 H 𝓜 𝓖 𝓡 =
     entered 𝓤 H (Own 𝓤 H (𝓖 .A) (𝓜 .mem) (𝓡 .run)) (tables 𝓤 H 𝓜 𝓡 code.env .C) (tables 𝓤 H 𝓜 𝓡 code.env .Λ) #kuzhlemor·kuzhlemor-step code.function (code.unfolded 𝓤 H 𝓜 𝓡)
     (kuzhlemor-step-meets 𝓤 H (𝓖 .A) (givenOf 𝓤 H 𝓜 𝓖) (𝓜 .mem) (𝓡 .run) (tablesOf 𝓤 H 𝓜 (tables 𝓤 H 𝓜 𝓡 code.env))
-    (cited 𝓤 H (Callee 𝓤 H (𝓖 .A) (𝓜 .mem) (𝓡 .run)) 𝓜 𝓡 code.env #kuzhlemor·call callee-symbol.routine code.calls-kuzhlemor·call (callee-met.met 𝓤 H 𝓜 𝓖 𝓡)))
+    (cited 𝓤 H (Callee 𝓤 H (𝓖 .A) (𝓜 .mem) (𝓡 .run)) 𝓜 𝓡 code.env #entry·call callee-symbol.routine code.calls-entry·call (callee-met.met 𝓤 H 𝓜 𝓖 𝓡)))

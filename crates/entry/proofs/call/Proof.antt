@@ -42,29 +42,29 @@ use denote.Triple.Call.{calls-at}
 use denote.Triple.Clauses.{atExit, ensured, lasts, Lasts}
 use denote.Triple.Table.{entered, cited}
 use denote.Triple.Walked.{says}
-use Rattle.kuzhlemor.specs.Entry.{together, Call-says}
+use Rattle.entry.specs.Call.{together, Call-says}
 use Rattle.host.specs.declared.record.Registers.{Registers}
-use Rattle.kuzhlemor.specs.declared.Answer.{Answer}
-use Rattle.kuzhlemor.specs.declared.Answered.{Answered}
-use Rattle.kuzhlemor.proofs.InPlace.{Rest, lends-part, comes-part}
+use Rattle.entry.specs.declared.Answer.{Answer}
+use Rattle.entry.specs.declared.Answered.{Answered}
+use Rattle.entry.proofs.InPlace.{Rest, lends-part, comes-part}
 use Rattle.host.proofs.record.Registers as T
 use Rattle.host.proofs.record.Registers.Laws as T′
 use Rattle.host.proofs.record.DescriptorBase as D
 use Rattle.host.proofs.record.DescriptorBase.Laws as D′
 use Rattle.host.proofs.record.Pointer as P
 use Rattle.host.proofs.record.Pointer.Laws as P′
-use Rattle.kuzhlemor.proofs.Answered as S
-use Rattle.kuzhlemor.proofs.Answered.Laws as S′
-use Rattle.kuzhlemor.proofs.Answer as E
-use Rattle.kuzhlemor.proofs.Answer.Laws as E′
-use Rattle.kuzhlemor.proofs.run_fields as callee
-use Rattle.kuzhlemor.proofs.run_fields.Symbol as callee-symbol
-use Rattle.kuzhlemor.proofs.run_fields.Symbol.{name as #kuzhlemor·run-fields}
-use Rattle.kuzhlemor.proofs.run_fields.Met as callee-met
-use Rattle.kuzhlemor.proofs.call.Key.{name as #kuzhlemor·call}
-use Rattle.kuzhlemor.proofs.call as f
-use Rattle.kuzhlemor.proofs.call.Statement as stated
-use Rattle.kuzhlemor.proofs.call.Code as code
+use Rattle.entry.proofs.Answered as S
+use Rattle.entry.proofs.Answered.Laws as S′
+use Rattle.entry.proofs.Answer as E
+use Rattle.entry.proofs.Answer.Laws as E′
+use Rattle.entry.proofs.run_fields as callee
+use Rattle.entry.proofs.run_fields.Symbol as callee-symbol
+use Rattle.entry.proofs.run_fields.Symbol.{name as #entry·run-fields}
+use Rattle.entry.proofs.run_fields.Met as callee-met
+use Rattle.entry.proofs.call.Key.{name as #entry·call}
+use Rattle.entry.proofs.call as f
+use Rattle.entry.proofs.call.Statement as stated
+use Rattle.entry.proofs.call.Code as code
 
 module _ {M : Type 1} (𝓤 : URA M) (H : Heap 𝓤) (A : Atoms 𝓤) (at-mem : Memory → SProp 𝓤) (run : Routine → Fun 𝓤) where
   -- the contract that the proof cites, and its own
@@ -151,7 +151,7 @@ module _ {M : Type 1} (𝓤 : URA M) (H : Heap 𝓤) (A : Atoms 𝓤) (W : Given
       show ! (λ (ws : Lasts f.ended (here .0 .0) (here .0 .3)). sep 𝓤 (sem 𝓤 H A (lasts f.ended (here .0 .0) (here .0 .3) ws)) (f.clauses 𝓤 H A at-mem run (here .0 .0) (here .0 .3) .ensures tt r (atExit f.ended (here .0 .0) (here .0 .3) ws))) (h′, (zs, (tt, (tt, tt)))) $ says ! e $
       nothing ! $ nothing ! $ fjoin ! $ nothing ! $ fjoin ! $ feqI ! ℕ (length zs) (length (y .now)) l $ move ! (3 ∷ 0 ∷ []) $ fjoin ! $ fjoin ! $ move ! (1 ∷ 0 ∷ []) $ fjoin ! $ done !
 
-  module _ (𝓣 : Tables 𝓤 H) (known : Triple 𝓤 (𝓣 .C #kuzhlemor·run-fields) (Callee 𝓤 H A at-mem run)) where
+  module _ (𝓣 : Tables 𝓤 H) (known : Triple 𝓤 (𝓣 .C #entry·run-fields) (Callee 𝓤 H A at-mem run)) where
     walk : Room u64 (length (y .now)) → n < 2 ^ 32 → ent 𝓤 (onEntry 𝓤 H A f.signature (κ, (κ′, tt)) (q, (q′, tt)) (x, (y, (n, (single, tt)))) vals) (WpFn 𝓤 H (𝓣 .C) (𝓣 .Λ) code.function (flat (typesAt (f.signature .params) (κ, (κ′, tt))) vals) (Own 𝓤 H A at-mem run .post here))
     walk room fits =
         qed W ((‵ (flft κ q) ⊛ ‵ (flft κ′ q′) ⊛ ‵ ftrue) ∷ ‵ (owns (MutRef (named 0) κ T.the-row ∷ MutSlice (named 1) κ′ u64 ∷ u32 ∷ bool ∷ []) (x, (y, (n, (single, tt)))) vals) ∷ []) ∵ enter ! (𝓣 .C) (𝓣 .Λ) code.function _ _ $
@@ -199,7 +199,7 @@ module _ {M : Type 1} (𝓤 : URA M) (H : Heap 𝓤) (A : Atoms 𝓤) (W : Given
         move ! (30 ∷ 31 ∷ []) $ free1 ! $ move ! (28 ∷ 29 ∷ []) $ free1 ! $ move ! (26 ∷ 27 ∷ []) $ free1 ! $ move ! (24 ∷ 25 ∷ []) $ free1 ! $ move ! (22 ∷ 23 ∷ []) $ free1 ! $ move ! (20 ∷ 21 ∷ []) $ free1 ! $ move ! (18 ∷ 19 ∷ []) $ free1 ! $ move ! (16 ∷ 17 ∷ []) $ free1 ! $ move ! (14 ∷ 15 ∷ []) $ free1 ! $ move ! (12 ∷ 13 ∷ []) $ free1 ! $ move ! (10 ∷ 11 ∷ []) $ free1 ! $ move ! (8 ∷ 9 ∷ []) $ free1 ! $ free0 ! $
         keep ! (0 ∷ 2 ∷ 3 ∷ 5 ∷ []) $ by ! (exits (r .answer) (left r (zs .0)) (zs .1 .0) (new .0) e l))))))))))))))))))))))))
 
-call-meets : {M : Type 1} (𝓤 : URA M) (H : Heap 𝓤) (A : Atoms 𝓤) → Given 𝓤 H A → (at-mem : Memory → SProp 𝓤) (run : Routine → Fun 𝓤) (𝓣 : Tables 𝓤 H) → Triple 𝓤 (𝓣 .C #kuzhlemor·run-fields) (Callee 𝓤 H A at-mem run)
+call-meets : {M : Type 1} (𝓤 : URA M) (H : Heap 𝓤) (A : Atoms 𝓤) → Given 𝓤 H A → (at-mem : Memory → SProp 𝓤) (run : Routine → Fun 𝓤) (𝓣 : Tables 𝓤 H) → Triple 𝓤 (𝓣 .C #entry·run-fields) (Callee 𝓤 H A at-mem run)
     → Triple 𝓤 (WpFn 𝓤 H (𝓣 .C) (𝓣 .Λ) code.function) (Own 𝓤 H A at-mem run)
 call-meets 𝓤 H A W at-mem run 𝓣 known ((κs, qs, bounds, a, vss), g) = via 𝓤 _ (fst∗ 𝓤 _ (emp 𝓤))
     (said 𝓤 H A f.signature κs qs (ptr-vals, (slice-vals, (uint-vals w32, (bool-vals, tt)))) (mut-tells (named 0) (κs .0) T.the-row, (mut-slice-tells (named 1) (κs .1 .0) u64, (uint-tells w32, (bool-tells, tt)))) a
@@ -209,6 +209,6 @@ call-meets 𝓤 H A W at-mem run 𝓣 known ((κs, qs, bounds, a, vss), g) = via
 pub call-spec : {M : Type 1} → stated.statement M
 unfolding code.routine tablesOf
 call-spec 𝓤 H 𝓜 𝓖 𝓡 =
-    entered 𝓤 H (Own 𝓤 H (𝓖 .A) (𝓜 .mem) (𝓡 .run)) (tables 𝓤 H 𝓜 𝓡 code.env .C) (tables 𝓤 H 𝓜 𝓡 code.env .Λ) #kuzhlemor·call code.function (code.unfolded 𝓤 H 𝓜 𝓡)
+    entered 𝓤 H (Own 𝓤 H (𝓖 .A) (𝓜 .mem) (𝓡 .run)) (tables 𝓤 H 𝓜 𝓡 code.env .C) (tables 𝓤 H 𝓜 𝓡 code.env .Λ) #entry·call code.function (code.unfolded 𝓤 H 𝓜 𝓡)
     (call-meets 𝓤 H (𝓖 .A) (givenOf 𝓤 H 𝓜 𝓖) (𝓜 .mem) (𝓡 .run) (tablesOf 𝓤 H 𝓜 (tables 𝓤 H 𝓜 𝓡 code.env))
-    (cited 𝓤 H (Callee 𝓤 H (𝓖 .A) (𝓜 .mem) (𝓡 .run)) 𝓜 𝓡 code.env #kuzhlemor·run-fields callee-symbol.routine code.calls-kuzhlemor·run-fields (callee-met.met 𝓤 H 𝓜 𝓖 𝓡)))
+    (cited 𝓤 H (Callee 𝓤 H (𝓖 .A) (𝓜 .mem) (𝓡 .run)) 𝓜 𝓡 code.env #entry·run-fields callee-symbol.routine code.calls-entry·run-fields (callee-met.met 𝓤 H 𝓜 𝓖 𝓡)))

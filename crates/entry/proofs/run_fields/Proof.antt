@@ -1,8 +1,8 @@
 -- `run_fields` meets its contract. Assumes nothing.
 use borrow.Author.Needs.{needs}
-use Rattle.kuzhlemor.proofs.EntryLaws.{parts-fit, sum-fits, call-says}
-use Rattle.kuzhlemor.proofs.run_fields.Statement.{statement}
-use Rattle.kuzhlemor.proofs.run_fields.Tie as tie
+use Rattle.entry.proofs.CallLaws.{parts-fit, sum-fits, call-says}
+use Rattle.entry.proofs.run_fields.Statement.{statement}
+use Rattle.entry.proofs.run_fields.Tie as tie
 
 to-base-requires : tie.Need-to-base-requires
 to-base-requires c κs = search needs
