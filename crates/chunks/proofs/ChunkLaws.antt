@@ -28,9 +28,10 @@ use Rattle.run.specs.declared.Reply.the-variants.{Refused, Spent, Halted, Fault
 use Rattle.run.specs.Run.{as-reply, Reply-within, completed, step-in, noted-steps}
 use Rattle.state.specs.View.{as-machine}
 use Rattle.state.specs.declared.Core.{Core}
-use Rattle.machine.specs.declared.Answered.{Answered}
-use Rattle.machine.specs.Answered.{Answered-as, reply-in, Replies}
-use Rattle.machine.proofs.AnswerLaws.{reply-of-numbers, count-completed}
+use Rattle.answers.specs.declared.Answered.{Answered}
+use Rattle.answers.specs.Answer.{reply-in, Replies}
+use Rattle.machine.specs.Answered.{Answered-as}
+use Rattle.answers.proofs.AnswerLaws.{reply-of-numbers, count-completed}
 use Rattle.chunks.specs.declared.Chunk.{Chunk}
 use Rattle.text.specs.Text.{placed, Put}
 use Rattle.chunks.specs.Chunk.{text-from, Few, ends-run, ending, Chunk-written, Chunk-listed}

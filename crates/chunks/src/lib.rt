@@ -98,7 +98,7 @@ fn put_chunk(
         steps,
         &mut trace,
     );
-    let reply = machine::reply_of(y);
+    let reply = answers::reply_of(y);
     let after = y.core;
     let length = put_steps(text, at, count, &trace, steps_of(reply));
     Chunk {

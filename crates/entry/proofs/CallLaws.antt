@@ -22,7 +22,7 @@ use Rattle.host.specs.declared.record.DescriptorBase.{DescriptorBase}
 use Rattle.host.specs.declared.record.Pointer.{Pointer}
 use Rattle.host.proofs.RecordLaws.{registers-same}
 use Rattle.machine.specs.Answered.{core-of, Answered-as}
-use Rattle.machine.specs.declared.Answered as Numbered
+use Rattle.answers.specs.declared.Answered as Numbered
 use Rattle.entry.specs.Call.{together, counted, Call-says}
 
 pub parts-fit : (a : ℕ) (d : Dbr) (p : Core.Pointer) → d .address ≤ 4294967295 → d .length ≤ 65535 → p .ring ≤ 255 → p .segment .0 ≤ 65535 → p .word .0 ≤ 65535 →

@@ -1,94 +1,31 @@
--- A run's answer as numbers: each reply's, and the whole, refused or run. Assumes nothing.
+-- The whole answer, refused or run. Assumes nothing.
 use mathlib.Core.Path.{_≡_, refl, sym, _∙_, ap, subst}
 use mathlib.Core.List.{List}
 use Prim.Native.Nat.{ℕ, zero, suc, _+_, _≤_}
 use native.Mathlib.Omega.{arith}
 use lib.Dec.{leb}
 use lib.ListN.{length, take}
-use borrow.Author.Tests.{leb-true, ne-eqb}
+use borrow.Author.Tests.{leb-true}
 use Rattle.model.specs.Registers.{Machine}
-use Rattle.model.specs.Answers.{Numbers, numbers, reply-numbers}
+use Rattle.model.specs.Answers.{Numbers, reply-numbers}
 use Rattle.model.specs.Questions.{all, pointer-in-range, registers-in-range, dbr-fits, start-questions}
 use Rattle.model.specs.Run as Run
 use Rattle.model.specs.Run.{ran, run-from, run, total, total-of}
 use Rattle.model.proofs.BranchLaws.{and-left, and-right}
 use Rattle.model.proofs.QuestionLaws.{ask-yes}
 use Rattle.model.proofs.RunLaws.{run-refused, run-goes, trace-refused, trace-goes}
-use Rattle.words.specs.View.{as-pointer, Pointer-within}
-use Rattle.words.specs.declared.pointer.Pointer.{Pointer}
+use Rattle.words.specs.View.{as-pointer}
 use Rattle.state.specs.View.{as-pointers, as-machine}
 use Rattle.state.specs.declared.Core.{Core}
 use Rattle.host.specs.Record.{In-record}
-use Rattle.run.specs.Run.{as-reply, Reply-within, completed, noted-steps, Ran-as, Traced, Counted}
+use Rattle.run.specs.Run.{as-reply, noted-steps, Ran-as, Traced, Counted}
 use Rattle.run.specs.declared.Ran.{Ran}
-use Rattle.run.specs.declared.Reply.{Reply}
 use Rattle.run.specs.declared.Reply.the-variants as Reply
 use Rattle.run.proofs.RunLaws.{ipr-passing}
-use Rattle.machine.specs.Answered.{Answer-fits, Answers-with, Answered-as, reply-in, Replies}
-use Rattle.machine.specs.declared.Answered.{Answered}
-
--- A REPLY AS NUMBERS
-abbrev nowhere : Pointer
-nowhere = record { ring = 0; segment = record { 0 = 0 }; word = record { 0 = 0 } }
-
-nowhere-within : Pointer-within nowhere
-nowhere-within = record { ring-within = omega arith; segment-within = omega arith; word-within = omega arith }
-
-module _ (r : Reply) (c : Core) (p : Pointer) (total last : ℕ) where
-  pub refused-answered : (n : ℕ) → r ≡ Reply.Refused n → n ≤ 255 → p ≡ nowhere → Answers-with r c total last (record { kind = 0; core = c; number = n; pointer = p; count = 0; total = total; last = last })
-  unfolding reply-numbers numbers
-  refused-answered n e h f =
-      rw (e, f) (record { numbers-same = refl; core-same = refl; total-same = refl; last-same = refl; fits = record { kind-fits = omega arith; number-fits = h; count-fits = omega arith; pointer-fits = nowhere-within } })
-
-  pub spent-answered : (n : ℕ) → r ≡ Reply.Spent n → n ≤ 4294967295 → p ≡ nowhere → Answers-with r c total last (record { kind = 1; core = c; number = 0; pointer = p; count = n; total = total; last = last })
-  unfolding reply-numbers numbers
-  spent-answered n e h f =
-      rw (e, f) (record { numbers-same = refl; core-same = refl; total-same = refl; last-same = refl; fits = record { kind-fits = omega arith; number-fits = omega arith; count-fits = h; pointer-fits = nowhere-within } })
-
-  pub halted-answered : (n : ℕ) → r ≡ Reply.Halted n → n ≤ 4294967295 → p ≡ nowhere → Answers-with r c total last (record { kind = 2; core = c; number = 0; pointer = p; count = n; total = total; last = last })
-  unfolding reply-numbers numbers
-  halted-answered n e h f =
-      rw (e, f) (record { numbers-same = refl; core-same = refl; total-same = refl; last-same = refl; fits = record { kind-fits = omega arith; number-fits = omega arith; count-fits = h; pointer-fits = nowhere-within } })
-
-pub fault-answered : (r : Reply) (c : Core) (total last i n : ℕ) (t : Pointer) → Reply-within r → r ≡ Reply.Fault i n t → i ≤ 255 → n ≤ 4294967295 →
-    Answers-with r c total last (record { kind = 3; core = c; number = i; pointer = t; count = n; total = total; last = last })
-unfolding reply-numbers numbers
-fault-answered r c total last i n t w e h k =
-    let within : Pointer-within t = subst Reply-within e w in
-    rw e (record { numbers-same = refl; core-same = refl; total-same = refl; last-same = refl; fits = record { kind-fits = omega arith; number-fits = h; count-fits = k; pointer-fits = within } })
-
--- NUMBERS AS A REPLY
-pub reply-of-numbers : (r : Run.Reply) → reply-in (reply-numbers r) ≡ r
-unfolding reply-in reply-numbers numbers
-reply-of-numbers (Run.Reply.refused n) = refl
-reply-of-numbers (Run.Reply.spent c) = refl
-reply-of-numbers (Run.Reply.halted c) = refl
-reply-of-numbers (Run.Reply.fault n c p) = refl
-
-module _ (x : Answered) (k : ℕ) (e : k ≡ x .kind) where
-  pub replies-refused : k ≡ 0 → Replies x (Reply.Refused (x .number))
-  unfolding reply-in
-  replies-refused h = record { same = rw (← e, h); within = tt }
-
-  pub replies-spent : k ≡ 1 → Replies x (Reply.Spent (x .count))
-  unfolding reply-in
-  replies-spent h = record { same = rw (← e, h); within = tt }
-
-  pub replies-halted : k ≡ 2 → Replies x (Reply.Halted (x .count))
-  unfolding reply-in
-  replies-halted h = record { same = rw (← e, h); within = tt }
-
-  pub replies-fault : (k ≡ 0 → ⊥) → (k ≡ 1 → ⊥) → (k ≡ 2 → ⊥) → Answer-fits x → Replies x (Reply.Fault (x .number) (x .count) (x .pointer))
-  unfolding reply-in
-  replies-fault h i j f = record { same = rw (← e, ne-eqb k 0 h, ne-eqb k 1 i, ne-eqb k 2 j); within = f .pointer-fits }
-
--- THE WHOLE
-pub count-completed : (r : Reply) → reply-numbers (as-reply r) .count ≡ completed r
-unfolding reply-numbers numbers
-count-completed (Reply.Refused n) = refl
-count-completed (Reply.Spent c) = refl
-count-completed (Reply.Halted c) = refl
-count-completed (Reply.Fault n c t) = refl
+use Rattle.answers.specs.Answer.{Answers-with}
+use Rattle.answers.specs.declared.Answered.{Answered}
+use Rattle.answers.proofs.AnswerLaws.{count-completed}
+use Rattle.machine.specs.Answered.{Answered-as}
 
 passing-in-record : (c : Core) (prs m : List ℕ) → start-questions (as-machine c prs m) ≡ 0 → In-record c
 unfolding start-questions registers-in-range dbr-fits
@@ -155,7 +92,3 @@ module _ (b : ℕ) (c : Core) (prs memory trace : List ℕ) (n : ℕ) (e : n ≡
         last-same = λ _. a .last-same ∙ k .last-same;
         last-none = λ f. absurd (f (sym e ∙ z));
       }
-
-pub ruleset replies = (refused-answered, spent-answered, halted-answered, fault-answered, replies-refused, replies-spent, replies-halted, replies-fault)
-
-pub ruleset wholes = (refused-whole, run-whole)

@@ -14,8 +14,9 @@ use Rattle.state.specs.View.{as-machine}
 use Rattle.state.specs.declared.Core.{Core}
 use Rattle.host.specs.declared.record.Registers.{Registers}
 use Rattle.host.specs.Record.{machine-of, Converted}
-use Rattle.machine.specs.Answered.{as-numbers, Answered-as, Prepared-as}
-use Rattle.machine.specs.declared.Answered.{Answered}
+use Rattle.answers.specs.Answer.{as-numbers}
+use Rattle.answers.specs.declared.Answered.{Answered}
+use Rattle.machine.specs.Answered.{Answered-as, Prepared-as}
 use Rattle.machine.specs.declared.Prepared.{Prepared}
 
 -- the numbers that such a run answers, by what 1 to 4 answer

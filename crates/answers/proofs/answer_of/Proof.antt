@@ -1,8 +1,8 @@
 -- `answer_of` meets its contract. Assumes nothing.
 use borrow.Author.Needs.{needs}
-use Rattle.machine.proofs.AnswerLaws.{refused-answered, spent-answered, halted-answered, fault-answered, replies}
-use Rattle.machine.proofs.answer_of.Statement.{statement}
-use Rattle.machine.proofs.answer_of.Tie as tie
+use Rattle.answers.proofs.AnswerLaws.{refused-answered, spent-answered, halted-answered, fault-answered, replies}
+use Rattle.answers.proofs.answer_of.Statement.{statement}
+use Rattle.answers.proofs.answer_of.Tie as tie
 
 enum-known-reply : tie.Need-enum-known-reply
 enum-known-reply c = search (needs, replies)

@@ -1,9 +1,9 @@
 -- `reply_of` meets its contract. Assumes nothing.
 use mathlib.Core.Path.{refl}
 use borrow.Author.Needs.{needs}
-use Rattle.machine.proofs.AnswerLaws.{replies-fault, replies}
-use Rattle.machine.proofs.reply_of.Statement.{statement}
-use Rattle.machine.proofs.reply_of.Tie as tie
+use Rattle.answers.proofs.AnswerLaws.{replies-fault, replies}
+use Rattle.answers.proofs.reply_of.Statement.{statement}
+use Rattle.answers.proofs.reply_of.Tie as tie
 
 cast-t5 : tie.Need-cast-t5
 cast-t5 c = search (needs, replies)
