@@ -9,8 +9,8 @@ use Rattle.model.specs.Run.{refused}
 use Rattle.model.specs.Image as Image
 use Rattle.model.specs.Listing.{refusal-line}
 use Rattle.model.specs.Convert.{convert-after}
-use Rattle.records.specs.declared.loading.Loading.{Loading}
-use Rattle.records.specs.View.{as-loading, Loading-within}
+use Rattle.loading.specs.declared.Loading.{Loading}
+use Rattle.loading.specs.View.{as-loading, Loading-within}
 use Rattle.compaction.specs.Compacted.{Compacted}
 use Rattle.conversion.specs.declared.ConvertOutcome.{ConvertOutcome}
 use Rattle.conversion.specs.declared.ConvertOutcome.the-variants.{Refused, More, Ready}

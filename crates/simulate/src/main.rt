@@ -19,7 +19,7 @@ fn read_image(store: &mut [u64]) -> Loaded
 {
     let mut buffer = io::large_buffer();
     let mut x = Loaded {
-        loading: records::loading::nothing_loaded(false),
+        loading: loading::nothing_loaded(false),
         outcome: LoadOutcome::More(0),
     };
     let mut kept = 0;
@@ -98,7 +98,7 @@ fn run_image(registers: Registers, memory: &mut [u64], budget: u32) {
 }
 
 fn main() {
-    let mut store = records::loading::empty_store();
+    let mut store = loading::empty_store();
     let x = read_image(&mut store);
     let loading = x.loading;
     let outcome = x.outcome;
