@@ -22,9 +22,9 @@ typedef struct {
 } image_machine;
 
 /* A number in decimal, and the byte that ends it. */
-static uint8_t *put(uint8_t *to, uint32_t number, uint8_t end)
+static uint8_t *put(uint8_t *to, uint64_t number, uint8_t end)
 {
-    uint8_t digits[10];
+    uint8_t digits[20];
     int count = 0;
 
     do {
@@ -44,32 +44,37 @@ static uint8_t *put_word(uint8_t *to, const char *word)
     return to;
 }
 
-static uint8_t *put_pointer(uint8_t *to, kuzhlemor_pointer p)
+/* The end of a line: a pointer, and a number of pointer words. */
+static uint8_t *put_pointer(uint8_t *to, kuzhlemor_pointer p, uint64_t pointer_words)
 {
     to = put(to, p.ring, ' ');
     to = put(to, p.segment, ' ');
-    return put(to, p.word, '\n');
+    to = put(to, p.word, ' ');
+    return put(to, pointer_words, '\n');
 }
 
 size_t plain_list(kuzhlemor_registers *registers, uint64_t *memory, size_t words, uint32_t budget, uint8_t *text)
 {
     uint8_t *to = text;
+    uint64_t total = 0;
 
     if (refusal(registers, words) != 0)
         return 0;
     for (uint32_t count = 0; count < budget; count++) {
         kuzhlemor_pointer at;
-        int end = step(registers, memory, words, &at);
+        uint32_t pointer_words;
+        int end = step(registers, memory, words, &at, &pointer_words);
 
         if (end != COMPLETED && end != HALTED) {
             to = put(put(put_word(to, "fault "), (uint32_t)end, ' '), count, ' ');
-            return (size_t)(put_pointer(to, at) - text);
+            return (size_t)(put_pointer(to, at, total) - text);
         }
-        to = put_pointer(put(to, count + 1, ' '), registers->ipr);
+        total += pointer_words;
+        to = put_pointer(put(to, count + 1, ' '), registers->ipr, pointer_words);
         if (end == HALTED)
-            return (size_t)(put(put_word(to, "halted "), count + 1, '\n') - text);
+            return (size_t)(put(put(put_word(to, "halted "), count + 1, ' '), total, '\n') - text);
     }
-    return (size_t)(put(put_word(to, "spent "), budget, '\n') - text);
+    return (size_t)(put(put(put_word(to, "spent "), budget, ' '), total, '\n') - text);
 }
 
 static bool has_mark(const uint8_t *record, const char *mark)

@@ -1,5 +1,6 @@
-/* The machine of document 01 in ordinary C, written from 01 alone. Nothing here is proved. Each file that includes it has
- * one loop of steps, so that the compiler merges the whole step into that loop. */
+/* The machine of document 01, which counts the pointer words it reads as 02 asks, in ordinary C, written from these papers
+ * alone. Nothing here is proved. Each file that includes it has one place that makes steps, so that the compiler merges the
+ * whole step into that place. */
 #ifndef PLAIN_STEP_H
 #define PLAIN_STEP_H
 
@@ -124,12 +125,13 @@ static inline bool may_execute(uint64_t d, uint32_t ring)
     return bit(d, 51) && r1(d) <= ring && ring <= r2(d);
 }
 
-/* TPR: the address with its effective ring, through pointer words while I is on. */
+/* TPR: the address with its effective ring, through pointer words while I is on; and how many of these were read. */
 static int form_address(const kuzhlemor_registers *r, const uint64_t *memory, size_t words, uint64_t instruction,
-                        kuzhlemor_pointer *at)
+                        kuzhlemor_pointer *at, uint32_t *pointer_words)
 {
     kuzhlemor_pointer tpr = r->ipr;
     bool indirect = bit(instruction, 20);
+    uint32_t count = 0;
     int number = 0;
 
     if (bit(instruction, 19)) {
@@ -138,7 +140,7 @@ static int form_address(const kuzhlemor_registers *r, const uint64_t *memory, si
     }
     tpr.word = (uint16_t)(tpr.word + field(instruction, 0, 16));
 
-    for (int count = 0; indirect; count++) {
+    for (; indirect; count++) {
         uint64_t d;
         uint64_t word;
 
@@ -160,6 +162,7 @@ static int form_address(const kuzhlemor_registers *r, const uint64_t *memory, si
         indirect = bit(word, 31);
     }
     *at = tpr;
+    *pointer_words = count;
     return number;
 }
 
@@ -311,8 +314,8 @@ static int perform(kuzhlemor_registers *r, uint64_t *memory, size_t words, uint6
     return COMPLETED;
 }
 
-/* One step; `at` becomes the address and ring under question. */
-static int step(kuzhlemor_registers *r, uint64_t *memory, size_t words, kuzhlemor_pointer *at)
+/* One step; `at` becomes the address and ring under question. The pointer words are those that it read, faulting or not. */
+static int step(kuzhlemor_registers *r, uint64_t *memory, size_t words, kuzhlemor_pointer *at, uint32_t *pointer_words)
 {
     uint64_t d;
     uint64_t instruction;
@@ -320,6 +323,7 @@ static int step(kuzhlemor_registers *r, uint64_t *memory, size_t words, kuzhlemo
     int number;
 
     *at = r->ipr;
+    *pointer_words = 0;
     number = find(r, memory, words, r->ipr, &d);
     if (number != 0)
         return number;
@@ -332,7 +336,7 @@ static int step(kuzhlemor_registers *r, uint64_t *memory, size_t words, kuzhlemo
     if ((kind & PRIVILEGED) != 0 && r->ipr.ring != 0)
         return 33;
     if ((kind & OPERAND) != 0) {
-        number = form_address(r, memory, words, instruction, at);
+        number = form_address(r, memory, words, instruction, at, pointer_words);
         if (number != 0)
             return number;
     }

@@ -13,7 +13,8 @@ static inline bool same_pointer(kuzhlemor_pointer x, kuzhlemor_pointer y)
 
 static inline bool same_reply(kuzhlemor_reply x, kuzhlemor_reply y)
 {
-    return x.kind == y.kind && x.number == y.number && x.count == y.count && same_pointer(x.pointer, y.pointer);
+    return x.kind == y.kind && x.number == y.number && x.count == y.count && same_pointer(x.pointer, y.pointer) &&
+           x.pointer_words == y.pointer_words;
 }
 
 static inline bool same_registers(const kuzhlemor_registers *x, const kuzhlemor_registers *y)

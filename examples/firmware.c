@@ -1,5 +1,5 @@
 /* A small dosing bench: it keeps the registers and memory of a program, runs it a step at a time and as a whole, and prints
- * the listing of an image. Build it with gcc and link libkuzhlemor.a. */
+ * the listing of an image and how many pointer words it read. Build it with gcc and link libkuzhlemor.a. */
 #include "kuzhlemor.h"
 
 #include <stdbool.h>
@@ -69,21 +69,26 @@ static void print_reply(const char *name, kuzhlemor_reply r)
         printf(", question %u", (unsigned)r.number);
     if (r.kind == KUZHLEMOR_FAULT)
         printf(" at ring %u, segment %u, word %u", r.pointer.ring, r.pointer.segment, r.pointer.word);
-    printf("\n");
+    printf("; %llu pointer words\n", (unsigned long long)r.pointer_words);
 }
 
-/* The main loop of a bench that looks at the registers after each step. The caller tests nothing first. */
-static void run_by_steps(machine *m)
+/* The main loop of a bench that looks at the registers after each step. The caller tests nothing first. The answer is a run's:
+ * what a faulting step has read isn't in its total. */
+static kuzhlemor_reply run_by_steps(machine *m)
 {
     kuzhlemor_reply reply = {.kind = KUZHLEMOR_SPENT};
     uint32_t count = 0;
+    uint64_t total = 0;
 
     while (count < m->budget && reply.kind == KUZHLEMOR_SPENT) {
         reply = kuzhlemor_step(&m->registers, m->memory, m->words);
         count += reply.count;
+        if (reply.kind != KUZHLEMOR_FAULT)
+            total += reply.pointer_words;
     }
     reply.count = count;
-    print_reply("by steps", reply);
+    reply.pointer_words = total;
+    return reply;
 }
 
 static bool same_machine(const machine *x, const machine *y)
@@ -99,6 +104,8 @@ int main(int argc, char **argv)
     static uint8_t text[TEXT];
     static machine x;
     static machine y;
+    kuzhlemor_reply by_steps;
+    kuzhlemor_reply as_a_run;
     FILE *file = argc == 2 ? fopen(argv[1], "rb") : NULL;
     size_t length;
     int64_t answer;
@@ -119,9 +126,11 @@ int main(int argc, char **argv)
 
     take(image, &x);
     take(image, &y);
-    run_by_steps(&x);
-    print_reply("as a run", kuzhlemor_run(&y.registers, y.memory, y.words, y.budget));
-    if (!same_machine(&x, &y)) {
+    by_steps = run_by_steps(&x);
+    as_a_run = kuzhlemor_run(&y.registers, y.memory, y.words, y.budget);
+    print_reply("by steps", by_steps);
+    print_reply("as a run", as_a_run);
+    if (!same_machine(&x, &y) || by_steps.count != as_a_run.count || by_steps.pointer_words != as_a_run.pointer_words) {
         printf("steps and run differ\n");
         return 1;
     }

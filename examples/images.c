@@ -107,6 +107,23 @@ static machine endless_pointer(void)
     return m;
 }
 
+/* The same blend, but the program stores and counts the dose by a chain of pointer words, from its first and from its last but
+ * one. */
+static machine slow_blend(void)
+{
+    machine m = blend();
+    const unsigned length = 24;
+
+    m.registers.prs[4] = pointer_to(4, 3, 0);
+    m.memory[3] = descriptor_word(32, (uint16_t)length, 4, 4, 4, R | V, 0);
+    for (unsigned k = 0; k < length - 1; k++)
+        m.memory[32 + k] = pointer_word(pointer_to(4, 3, k + 1)) | POINTER_I_ON;
+    m.memory[32 + length - 1] = pointer_word(pointer_to(4, 5, 0));
+    m.memory[18] = by_pr(STA, 4, 0) | I_ON;
+    m.memory[19] = by_pr(AOS, 4, (int)length - 2) | I_ON;
+    return m;
+}
+
 /* A PR of a lower ring than IPR's. */
 static machine low_pr(void)
 {
@@ -135,6 +152,7 @@ int main(int argc, char **argv)
         {"case-12", case_12, 9},
         {"blend", blend, 100},
         {"blend-cut-short", blend, 4},
+        {"slow-blend", slow_blend, 100},
         {"reads-the-formula", reads_the_formula, 100},
         {"endless-pointer", endless_pointer, 100},
         {"low-pr", low_pr, 100},

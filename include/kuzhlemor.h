@@ -53,23 +53,31 @@ enum {
      *   3  no PR's ring is below IPR's
      *   4  DBR's length is at most 4,096, and the descriptor segment lies within memory */
     KUZHLEMOR_REFUSED = 0,
-    /* count: the steps completed. A run: the whole budget. A single step: 1. */
+    /* count: the steps completed. A run: the whole budget. A single step: 1.
+     * pointer_words: how many those steps read. */
     KUZHLEMOR_SPENT = 1,
-    /* count: the steps completed; HLT was the last of them. */
+    /* count: the steps completed; HLT was the last of them. pointer_words: how many those steps read. */
     KUZHLEMOR_HALTED = 2,
     /* number: the first question, 11 to 15 or 21 to 34, that the next instruction answered no; pointer: the address and
-     * ring under question; count: the steps completed before it. A single step: 0. */
+     * ring under question; count: the steps completed before it. A single step: 0.
+     * pointer_words: how many those steps read; what the faulting step read isn't in it. A single step: how many the
+     * faulting step itself read. */
     KUZHLEMOR_FAULT = 3
 };
 
+/* A step reads 0 to 64 pointer words, those through which its address is formed. One counts once it has been read: a
+ * fault at the third has 2, 31 has 64, any fault after the address is formed has the whole chain's; a fault of the fetch,
+ * 32 and 33 have 0, and so has an instruction without an operand. A run's total is at most 64 times its count. */
 typedef struct {
     uint32_t kind;
     uint32_t number;
     uint32_t count;
     kuzhlemor_pointer pointer;
+    uint64_t pointer_words;
 } kuzhlemor_reply;
 
-/* Performs the instruction at IPR. Answers what kuzhlemor_run does with a budget of 1. */
+/* Performs the instruction at IPR. Answers what kuzhlemor_run does with a budget of 1, except for a fault's
+ * pointer_words. */
 kuzhlemor_reply kuzhlemor_step(kuzhlemor_registers *registers, uint64_t *memory, size_t words);
 
 /* Performs instructions until HLT, a fault, or as many as the budget says are completed. HLT as the last step of the
@@ -77,9 +85,10 @@ kuzhlemor_reply kuzhlemor_step(kuzhlemor_registers *registers, uint64_t *memory,
  * it stopped when record and memory are lent again as they were left. */
 kuzhlemor_reply kuzhlemor_run(kuzhlemor_registers *registers, uint64_t *memory, size_t words, uint32_t budget);
 
-/* Loads an image, runs it and writes its listing into text: a line for each completed step (its number, then IPR's ring,
- * segment and word after it) and a last line (`spent COUNT`, `halted COUNT` or `fault NUMBER COUNT RING SEGMENT WORD`),
- * each ended by a newline, with no zero byte after them. Answers the text's length, or a question's number negated:
+/* Loads an image, runs it and writes its listing into text: a line for each completed step (its number, IPR's ring, segment
+ * and word after it, and how many pointer words it read) and a last line (`spent COUNT TOTAL`, `halted COUNT TOTAL` or
+ * `fault NUMBER COUNT RING SEGMENT WORD TOTAL`, where TOTAL is the sum of the lines' pointer words), each ended by a
+ * newline, with no zero byte after them. Answers the text's length, or a question's number negated:
  *   -41  a record's mark is known, and the record is whole
  *   -42  ME comes first and once, ST once and before RN, RN comes once and last
  *   -43  ME says at most 8,192 words
@@ -115,11 +124,12 @@ static_assert(offsetof(kuzhlemor_registers, a) == 0, "A");
 static_assert(offsetof(kuzhlemor_registers, dbr) == 8, "DBR");
 static_assert(offsetof(kuzhlemor_registers, ipr) == 16, "IPR");
 static_assert(offsetof(kuzhlemor_registers, prs) == 22, "PR0 to PR7");
-static_assert(sizeof(kuzhlemor_reply) == 20, "size of a reply");
+static_assert(sizeof(kuzhlemor_reply) == 32, "size of a reply");
 static_assert(offsetof(kuzhlemor_reply, kind) == 0, "kind");
 static_assert(offsetof(kuzhlemor_reply, number) == 4, "number");
 static_assert(offsetof(kuzhlemor_reply, count) == 8, "count");
 static_assert(offsetof(kuzhlemor_reply, pointer) == 12, "pointer");
+static_assert(offsetof(kuzhlemor_reply, pointer_words) == 24, "pointer words");
 #ifdef __cplusplus
 static_assert(alignof(kuzhlemor_registers) == 8, "alignment of the registers");
 #else

@@ -42,11 +42,17 @@ fn machine(opcode: u8, ring: u8, word: u16, segment: Descriptor) -> (Registers, 
     (registers, memory)
 }
 
+/// Where no pointer word was read.
 fn fault(number: u8, at: Pointer) -> Reply {
-    Reply::Fault { fault: Fault { number, at }, count: 0 }
+    Reply::Fault { fault: Fault { number, at }, count: 0, pointer_words: 0 }
 }
 
-const COMPLETED: Reply = Reply::Spent { count: 1 };
+/// Without a pointer word.
+const COMPLETED: Reply = completed(0);
+
+const fn completed(pointer_words: u64) -> Reply {
+    Reply::Spent { count: 1, pointer_words }
+}
 
 #[test]
 fn case_1_pointer_word() {
@@ -112,7 +118,7 @@ fn case_10_effective_ring() {
     let (mut registers, mut memory) = machine(EAP, 2, 0, Descriptor { r: true, ..target(3, 3, 3) });
     memory[16] = Instruction { opcode: EAP, p: true, prnum: 2, i: true, reg: 4, ..Instruction::default() }.to_word();
     memory[32] = PointerWord { pointer: pointer(1, 9, 8), i: false }.to_word();
-    assert_eq!(step(&mut registers, &mut memory), COMPLETED);
+    assert_eq!(step(&mut registers, &mut memory), completed(1));
     assert_eq!(registers.pr[4], pointer(3, 9, 8));
 }
 
@@ -171,7 +177,7 @@ fn case_12() -> Vec<u8> {
     image
 }
 
-const CASE_12_LISTING: &str = "1 4 4 1\n2 1 5 0\nfault 23 2 4 3 0\n";
+const CASE_12_LISTING: &str = "1 4 4 1 0\n2 1 5 0 0\nfault 23 2 4 3 0 0\n";
 
 #[test]
 fn case_12_listing() {
@@ -206,10 +212,11 @@ fn case_13_pointer_words() {
         }
         let reply = step(&mut registers, &mut memory);
         if number == 0 {
-            assert_eq!(reply, COMPLETED);
+            assert_eq!(reply, completed(64));
             assert_eq!(registers.pr[0], pointer(4, TARGET, 64));
         } else {
-            assert_eq!(reply, fault(31, pointer(4, TARGET, 64)));
+            let fault = Fault { number: 31, at: pointer(4, TARGET, 64) };
+            assert_eq!(reply, Reply::Fault { fault, count: 0, pointer_words: 64 });
         }
     }
 }

@@ -1,10 +1,11 @@
-//! A second implementation of the ring processor, written from document 01 and request L1 of document 02 alone, to be
-//! compared with the first.
+//! A second implementation of the ring processor, written from document 01 and requests L1 and L2 of document 02 alone,
+//! to be compared with the first.
 //!
 //! It reads like the paper: `words` has the descriptor, the pointer word and the instruction; `machine` the registers,
 //! the questions, a step and a run; `image` the records; `listing` the text; `bench` the call of the bench's firmware;
-//! `convert` the program for stored images. `repeats` has directed images with what each of them asks for; they are for
-//! the tests and the comparison. A comment that starts with a number is the question of that number.
+//! `convert` the program for stored images. `repeats` has directed images and `pointers` directed machines with what each
+//! of them asks for; they are for the tests and the comparison. A comment that starts with a number is the question of
+//! that number.
 
 #![forbid(unsafe_code)]
 
@@ -13,6 +14,7 @@ pub mod convert;
 pub mod image;
 pub mod listing;
 pub mod machine;
+pub mod pointers;
 pub mod repeats;
 pub mod words;
 

@@ -11,13 +11,26 @@ pub struct Registers {
     pub pr: [Pointer; 8],
 }
 
-/// What a run answers.
+/// What a run or a single step answers. A run's pointer words are those of its completed steps; a single step's are its
+/// own, faulting or not.
 #[derive(Clone, Copy, Debug, PartialEq, Eq)]
 pub enum Reply {
     Refused { number: u8 },
-    Spent { count: u32 },
-    Halted { count: u32 },
-    Fault { fault: Fault, count: u32 },
+    Spent { count: u32, pointer_words: u64 },
+    Halted { count: u32, pointer_words: u64 },
+    Fault { fault: Fault, count: u32, pointer_words: u64 },
+}
+
+impl Reply {
+    /// A refusal has read none.
+    pub fn pointer_words(self) -> u64 {
+        match self {
+            Reply::Refused { .. } => 0,
+            Reply::Spent { pointer_words, .. }
+            | Reply::Halted { pointer_words, .. }
+            | Reply::Fault { pointer_words, .. } => pointer_words,
+        }
+    }
 }
 
 /// A no to a question from 11 on: its number, and the address and ring under question.
@@ -32,6 +45,19 @@ pub struct Fault {
 enum Completed {
     GoOn,
     Halt,
+}
+
+/// What forming an address gives: TPR, or the fault of a pointer word; and how many pointer words were read, 0 to 64.
+#[derive(Clone, Copy, Debug, PartialEq, Eq)]
+pub struct Address {
+    pub tpr: Result<Pointer, Fault>,
+    pub pointer_words: u32,
+}
+
+/// What performing an instruction gives, and the pointer words that were read for it.
+struct Performed {
+    result: Result<Completed, Fault>,
+    pointer_words: u32,
 }
 
 /// The most words that memory may have.
@@ -214,7 +240,7 @@ pub fn fetch(registers: &Registers, memory: &[u64]) -> Result<Instruction, Fault
 
 /// 32: opcode in the table? Then 33.
 #[inline]
-fn decode(instruction: &Instruction, ipr: &Pointer) -> Result<Opcode, Fault> {
+pub fn decode(instruction: &Instruction, ipr: &Pointer) -> Result<Opcode, Fault> {
     let Some(opcode) = Opcode::from_number(instruction.opcode) else {
         return Err(Fault { number: 32, at: *ipr });
     };
@@ -222,9 +248,9 @@ fn decode(instruction: &Instruction, ipr: &Pointer) -> Result<Opcode, Fault> {
     Ok(opcode)
 }
 
-/// 2. and 3. Form TPR, the address with its effective ring.
+/// 2. TPR before any pointer word.
 #[inline]
-fn form_tpr(registers: &Registers, memory: &[u64], instruction: &Instruction) -> Result<Pointer, Fault> {
+fn direct(registers: &Registers, instruction: &Instruction) -> Pointer {
     let ipr = &registers.ipr;
     let mut tpr = if instruction.p {
         let pr = &registers.pr[usize::from(instruction.prnum)];
@@ -233,20 +259,38 @@ fn form_tpr(registers: &Registers, memory: &[u64], instruction: &Instruction) ->
         *ipr
     };
     tpr.wordno = tpr.wordno.wrapping_add(instruction.offset);
+    tpr
+}
 
+/// 3. Reads the pointer word at TPR, before which so many were read: 31, 11 to 15, 22. Gives the next TPR and I.
+#[inline]
+fn follow(
+    registers: &Registers,
+    memory: &[u64],
+    tpr: &Pointer,
+    pointer_words_read: u32,
+) -> Result<(Pointer, bool), Fault> {
+    ask(31, is_among_the_first(pointer_words_read), tpr)?;
+    let segment = use_segment(&registers.dbr, memory, tpr)?;
+    ask(22, may_read(&segment, tpr.ring), tpr)?;
+    let PointerWord { pointer, i } = PointerWord::from_word(words_of(&segment, memory)[usize::from(tpr.wordno)]);
+    Ok((Pointer { ring: tpr.ring.max(pointer.ring).max(segment.r1), ..pointer }, i))
+}
+
+/// 2. and 3. Form TPR, the address with its effective ring. A pointer word counts once it has been read.
+#[inline]
+pub fn form_address(registers: &Registers, memory: &[u64], instruction: &Instruction) -> Address {
+    let mut tpr = direct(registers, instruction);
     let mut i = instruction.i;
-    let mut pointer_words_read = 0;
+    let mut pointer_words = 0;
     while i {
-        ask(31, is_among_the_first(pointer_words_read), &tpr)?;
-        let segment = use_segment(&registers.dbr, memory, &tpr)?;
-        ask(22, may_read(&segment, tpr.ring), &tpr)?;
-        let pointer_word = PointerWord::from_word(words_of(&segment, memory)[usize::from(tpr.wordno)]);
-        let pointer = pointer_word.pointer;
-        tpr = Pointer { ring: tpr.ring.max(pointer.ring).max(segment.r1), ..pointer };
-        i = pointer_word.i;
-        pointer_words_read += 1;
+        match follow(registers, memory, &tpr, pointer_words) {
+            Ok(next) => (tpr, i) = next,
+            Err(fault) => return Address { tpr: Err(fault), pointer_words },
+        }
+        pointer_words += 1;
     }
-    Ok(tpr)
+    Address { tpr: Ok(tpr), pointer_words }
 }
 
 /// Reads the word at TPR: 11 to 15, 22.
@@ -316,29 +360,50 @@ fn load_dbr(registers: &mut Registers, memory: &[u64], tpr: &Pointer) -> Result<
     Ok(())
 }
 
-/// The instruction at IPR, when 1 to 4 have passed. A fault leaves registers and memory as they were.
+/// 1., 32 and 33.
 #[inline]
-fn perform(registers: &mut Registers, memory: &mut [u64]) -> Result<Completed, Fault> {
+fn next_instruction(registers: &Registers, memory: &[u64]) -> Result<(Instruction, Opcode), Fault> {
     let instruction = fetch(registers, memory)?;
     let opcode = decode(&instruction, &registers.ipr)?;
+    Ok((instruction, opcode))
+}
 
-    // No operand.
+/// The instruction at IPR, when 1 to 4 have passed. A fault leaves registers and memory as they were.
+#[inline]
+fn perform(registers: &mut Registers, memory: &mut [u64]) -> Performed {
+    let (instruction, opcode) = match next_instruction(registers, memory) {
+        Ok(decoded) => decoded,
+        Err(fault) => return Performed { result: Err(fault), pointer_words: 0 },
+    };
+    // No operand, no address.
     match opcode {
         Opcode::Ldi => {
             registers.a = u64::from(instruction.lit);
             advance(registers);
-            return Ok(Completed::GoOn);
+            return Performed { result: Ok(Completed::GoOn), pointer_words: 0 };
         }
         Opcode::Hlt => {
             advance(registers);
-            return Ok(Completed::Halt);
+            return Performed { result: Ok(Completed::Halt), pointer_words: 0 };
         }
         _ => {}
     }
+    // Whatever is asked after the address, its pointer words have been read.
+    let Address { tpr, pointer_words } = form_address(registers, memory, &instruction);
+    let result = tpr.and_then(|tpr| use_operand(registers, memory, &instruction, opcode, &tpr));
+    Performed { result, pointer_words }
+}
 
-    let tpr = &form_tpr(registers, memory, &instruction)?;
+/// 4. Perform, with TPR. Where control moves, IPR isn't advanced.
+#[inline]
+fn use_operand(
+    registers: &mut Registers,
+    memory: &mut [u64],
+    instruction: &Instruction,
+    opcode: Opcode,
+    tpr: &Pointer,
+) -> Result<Completed, Fault> {
     let reg = usize::from(instruction.reg);
-    // 4. Perform. Where control moves, IPR isn't advanced.
     match opcode {
         Opcode::Lda => registers.a = read(registers, memory, tpr)?,
         Opcode::Sta => write(registers, memory, tpr, registers.a)?,
@@ -374,7 +439,7 @@ fn perform(registers: &mut Registers, memory: &mut [u64]) -> Result<Completed, F
             return Ok(Completed::GoOn);
         }
         Opcode::Ldbr => load_dbr(registers, memory, tpr)?,
-        // Performed above.
+        // Performed before, without an operand.
         Opcode::Ldi | Opcode::Hlt => {}
     }
     advance(registers);
@@ -388,22 +453,35 @@ fn advance(registers: &mut Registers) {
 
 // ---- A run.
 
-/// A run of one step.
+/// One step. It answers with its own pointer words, even where it faults.
 pub fn step(registers: &mut Registers, memory: &mut [u64]) -> Reply {
-    run(registers, memory, 1)
+    if let Err(number) = refusal(registers, memory.len()) {
+        return Reply::Refused { number };
+    }
+    let Performed { result, pointer_words } = perform(registers, memory);
+    let pointer_words = u64::from(pointer_words);
+    match result {
+        Ok(Completed::GoOn) => Reply::Spent { count: 1, pointer_words },
+        Ok(Completed::Halt) => Reply::Halted { count: 1, pointer_words },
+        Err(fault) => Reply::Fault { fault, count: 0, pointer_words },
+    }
 }
 
-/// Steps until HLT, a fault, or the budget is spent. The count is the number of completed steps.
+/// Steps until HLT, a fault, or the budget is spent. The count is the number of completed steps, and the pointer words
+/// are theirs: a faulting step isn't in either.
 pub fn run(registers: &mut Registers, memory: &mut [u64], budget: u32) -> Reply {
     if let Err(number) = refusal(registers, memory.len()) {
         return Reply::Refused { number };
     }
+    let mut total: u64 = 0;
     for count in 0..budget {
-        match perform(registers, memory) {
-            Ok(Completed::GoOn) => {}
-            Ok(Completed::Halt) => return Reply::Halted { count: count + 1 },
-            Err(fault) => return Reply::Fault { fault, count },
+        let Performed { result, pointer_words } = perform(registers, memory);
+        let with_this = total + u64::from(pointer_words);
+        match result {
+            Ok(Completed::GoOn) => total = with_this,
+            Ok(Completed::Halt) => return Reply::Halted { count: count + 1, pointer_words: with_this },
+            Err(fault) => return Reply::Fault { fault, count, pointer_words: total },
         }
     }
-    Reply::Spent { count: budget }
+    Reply::Spent { count: budget, pointer_words: total }
 }

@@ -78,11 +78,11 @@ fn segment() -> u64 {
 const LDI: u64 = 10 << 24;
 
 /// Word 0 is zero: V is off.
-const NO_SEGMENT: &str = "fault 12 0 4 0 0\n";
+const NO_SEGMENT: &str = "fault 12 0 4 0 0 0\n";
 /// Word 2 is zero: no opcode of the table.
-const NO_OPCODE: &str = "fault 32 0 4 0 0\n";
+const NO_OPCODE: &str = "fault 32 0 4 0 0 0\n";
 /// Word 2 is LDI, word 3 zero, and the budget 2 or more.
-const ONE_STEP: &str = "1 4 0 1\nfault 32 1 4 0 1\n";
+const ONE_STEP: &str = "1 4 0 1 0\nfault 32 1 4 0 1 0\n";
 
 pub fn cases() -> Vec<Case> {
     [accepted(), repeated(), first_no(), refused_alike()].into_iter().flatten().collect()
@@ -93,8 +93,8 @@ fn accepted() -> Vec<Case> {
     let case = |name, records, kept, text| Case { name, records, refused: None, stored: Ok((kept, text)) };
     vec![
         case("no WD", vec![me(8), st(), rn(2)], &[0, 1, 2], NO_SEGMENT),
-        case("budget 0", vec![me(1), st(), rn(0)], &[0, 1, 2], "spent 0\n"),
-        case("no memory", vec![me(0), state(0, 4, 4), rn(2)], &[0, 1, 2], "fault 11 0 4 0 0\n"),
+        case("budget 0", vec![me(1), st(), rn(0)], &[0, 1, 2], "spent 0 0\n"),
+        case("no memory", vec![me(0), state(0, 4, 4), rn(2)], &[0, 1, 2], "fault 11 0 4 0 0 0\n"),
         case("one WD", vec![me(8), st(), wd(0, segment()), rn(2)], &[0, 1, 2, 3], NO_OPCODE),
         case(
             "two addresses, in no order, ST between",
@@ -214,7 +214,7 @@ fn repeated() -> Vec<Case> {
             "51: the largest address",
             vec![me(8192), wd(8191, 1), wd(0, 1), st(), wd(8191, 1), rn(0)],
             &[0, 2, 3, 4, 5],
-            "spent 0\n",
+            "spent 0 0\n",
         ),
         case("51: a memory of one word", vec![me(1), wd(0, 1), wd(0, 0), st(), rn(1)], &[0, 2, 3, 4], NO_SEGMENT),
         // 51 comes before 45: no buffer has 2^38 bytes.

@@ -1,5 +1,5 @@
-/* kuzhlemor_bench as the firmware calls it: texts worked out by hand, 45 at its bound, what stays of the buffer, 51 of every
- * address, and random, cut and damaged images against plain C, byte for byte. */
+/* kuzhlemor_bench as the firmware calls it: texts worked out by hand, with their pointer words, 45 at its bound, what stays of
+ * the buffer, 51 of every address, and random, cut and damaged images against plain C, byte for byte. */
 #include "images.h"
 #include "machine.h"
 
@@ -11,6 +11,7 @@ enum {
     IMAGES = 20000,
     MOST_BUDGET = 60,
     MOST_WORDS = 8192,
+    LONG = 1500,
     ROOM = 64 * (MOST_BUDGET + 1),
     FILLER = 0xa5
 };
@@ -40,17 +41,74 @@ static void expect(const char *name, size_t length, size_t room, int64_t answer,
 
 static void case_12_whole(void)
 {
-    static const char text[] = "1 4 4 1\n2 1 5 0\nfault 23 2 4 3 0\n";
+    static const char text[] = "1 4 4 1 0\n2 1 5 0 0\nfault 23 2 4 3 0 0\n";
     machine m = case_12();
     size_t length = image_of(&m, 9);
 
-    expect("case 12", length, 640, 33, text);
-    expect("case 12, a longer buffer", length, 1000, 33, text);
+    expect("case 12", length, 640, 39, text);
+    expect("case 12, a longer buffer", length, 1000, 39, text);
     expect("case 12, a buffer one byte short", length, 639, -45, "");
     expect("case 12, no buffer", length, 0, -45, "");
-    expect("case 12, budget 0", image_of(&m, 0), 64, 8, "spent 0\n");
-    expect("case 12, budget 2", image_of(&m, 2), 192, 24, "1 4 4 1\n2 1 5 0\nspent 2\n");
+    expect("case 12, budget 0", image_of(&m, 0), 64, 10, "spent 0 0\n");
+    expect("case 12, budget 2", image_of(&m, 2), 192, 30, "1 4 4 1 0\n2 1 5 0 0\nspent 2 0\n");
     expect("case 12, the largest budget", image_of(&m, UINT32_MAX), 1000, -45, "");
+}
+
+/* A program in ring 0, segment 3, whose first two steps read 64 and 3 pointer words; its third instruction is given. Pointer
+ * words 0 to 63 are by turns in segments 1 and 2 and lead to word 64; word 70 points to itself, and the third from word 80 is
+ * in no segment. */
+static size_t chains(uint64_t third, uint32_t budget)
+{
+    machine m = empty_machine(128);
+    uint64_t *words = &m.memory[16];
+
+    m.registers.dbr = (kuzhlemor_dbr){0, 4};
+    m.registers.ipr = pointer_to(0, 3, 0);
+    m.registers.prs[4] = pointer_to(0, 1, 0);
+    m.memory[1] = descriptor_word(16, 112, 0, 0, 0, R | W | V, 0);
+    m.memory[2] = m.memory[1];
+    m.memory[3] = descriptor_word(4, 8, 0, 0, 0, R | E | V, 0);
+    m.memory[4] = by_pr(LDA, 4, 0) | I_ON;
+    m.memory[5] = by_pr(STA, 4, 61) | I_ON;
+    m.memory[6] = third;
+    m.memory[7] = near(HLT, 0);
+    for (unsigned k = 0; k < 64; k++)
+        words[k] = pointer_word(pointer_to(0, 1 + (k + 1) % 2, k + 1)) | (k < 63 ? POINTER_I_ON : 0);
+    words[70] = pointer_word(pointer_to(0, 2, 70)) | POINTER_I_ON;
+    words[80] = pointer_word(pointer_to(0, 2, 81)) | POINTER_I_ON;
+    words[81] = pointer_word(pointer_to(0, 9, 9)) | POINTER_I_ON;
+    return image_of(&m, budget);
+}
+
+/* Each line has its step's pointer words, the last line their sum: a faulting step's aren't in it. */
+static void pointer_words(void)
+{
+    const uint64_t not_taken = by_pr(TMI, 4, 63) | I_ON;
+    const uint64_t endless = by_pr(LDA, 4, 70) | I_ON;
+    const uint64_t broken = by_pr(LDA, 4, 80) | I_ON;
+    const uint64_t after = by_pr(TRA, 4, 60) | I_ON;
+
+    expect("chains, budget 0", chains(not_taken, 0), 64, 10, "spent 0 0\n");
+    expect("chains, budget 1", chains(not_taken, 1), 128, 22, "1 0 3 1 64\nspent 1 64\n");
+    expect("chains, budget 2", chains(not_taken, 2), 192, 32, "1 0 3 1 64\n2 0 3 2 3\nspent 2 67\n");
+    expect("chains, HLT", chains(not_taken, 9), 640, 53, "1 0 3 1 64\n2 0 3 2 3\n3 0 3 3 1\n4 0 3 4 0\nhalted 4 68\n");
+    expect("chains, 31", chains(endless, 9), 640, 42, "1 0 3 1 64\n2 0 3 2 3\nfault 31 2 0 2 70 67\n");
+    expect("chains, 11 at the third", chains(broken, 9), 640, 41, "1 0 3 1 64\n2 0 3 2 3\nfault 11 2 0 9 9 67\n");
+    expect("chains, 25 after four", chains(after, 9), 640, 42, "1 0 3 1 64\n2 0 3 2 3\nfault 25 2 0 1 64 67\n");
+    expect("chains, 32", chains(I_ON, 9), 640, 41, "1 0 3 1 64\n2 0 3 2 3\nfault 32 2 0 3 2 67\n");
+}
+
+/* More steps than a listing is made of at a time: 64, 3 and no pointer words in turn. */
+static void long_listing(void)
+{
+    static const char *const ends[] = {"1 64", "2 3", "0 0"};
+    static char text[64 * (LONG + 1)];
+    size_t size = 0;
+
+    for (unsigned k = 0; k < LONG; k++)
+        size += (size_t)sprintf(text + size, "%u 0 3 %s\n", k + 1, ends[k % 3]);
+    size += (size_t)sprintf(text + size, "spent %u %u\n", (unsigned)LONG, LONG / 3 * 67);
+    expect("a long listing", chains(near(TRA, -2), LONG), 64 * (LONG + 1), (int64_t)size, text);
 }
 
 static void refusals(void)
@@ -107,7 +165,7 @@ static void words_written_twice(void)
     kuzhlemor_registers long_dbr = {.dbr = {0, 17}};
     uint8_t *end;
 
-    expect("each address once", up_to(put_rn(put_wds(&good, once, 4), 0)), 64, 8, "spent 0\n");
+    expect("each address once", up_to(put_rn(put_wds(&good, once, 4), 0)), 64, 10, "spent 0 0\n");
     expect("two WDs in a row", up_to(put_rn(put_wds(&good, twice, 2), 0)), 64, -51, "");
     expect("two WDs apart", up_to(put_rn(put_wds(&good, apart, 5), 0)), 64, -51, "");
     expect("two WDs and no more", up_to(put_wds(NULL, twice, 2)), 64, -51, "");
@@ -145,7 +203,7 @@ static void every_address(void)
 
     for (uint32_t k = 0; k < MOST_WORDS; k++)
         end = put_wd(end, k, k);
-    expect("all addresses", up_to(put_rn(end, 0)), 64, 8, "spent 0\n");
+    expect("all addresses", up_to(put_rn(end, 0)), 64, 10, "spent 0 0\n");
     for (uint32_t k = 0; k < MOST_WORDS; k++) {
         end = put_wd(put_wd(put_me(image, MOST_WORDS), k, 1), k, 2);
         expect("an address twice", up_to(end), 0, -51, "");
@@ -217,6 +275,8 @@ static void damaged_images(void)
 int main(void)
 {
     case_12_whole();
+    pointer_words();
+    long_listing();
     refusals();
     words_written_twice();
     every_address();

@@ -1,18 +1,21 @@
 /* Single steps of document 01: every opcode, every question with the values at its edge, the cases of 01 that are
- * steps, and the order of the questions. */
+ * steps, the order of the questions, and how many pointer words each step reads. */
 #include "machine.h"
 
 #include <stdio.h>
 
-/* The desk on which most cases are laid out: 96 words, eight descriptors at 0, and three segments of 16 words. */
+/* The desk on which most cases are laid out: 128 words, eight descriptors at 0, three segments of 16 words, and room for a
+ * chain of 64 pointer words. */
 enum {
-    WORDS = 96,
+    WORDS = 128,
+    CHAIN = 2,
     CODE = 4,
     DATA = 5,
     OTHER = 6,
     CODE_AT = 16,
     DATA_AT = 32,
-    OTHER_AT = 48
+    OTHER_AT = 48,
+    CHAIN_AT = 64
 };
 
 static expectation *report;
@@ -38,64 +41,75 @@ static machine desk(unsigned ring, uint64_t instruction)
     return m;
 }
 
-static void completes(const char *name, const machine *before, const machine *after)
+/* Completes, having read so many pointer words. */
+static void completes_through(const char *name, const machine *before, const machine *after, unsigned pointer_words)
 {
-    report(name, before, after, spent(1));
+    report(name, before, after, spent(1, pointer_words));
 }
 
 /* Completes with IPR one on, A as given, and nothing else changed. */
-static void sets_a(const char *name, machine before, uint64_t a)
+static void sets_a_through(const char *name, machine before, uint64_t a, unsigned pointer_words)
 {
     machine after = before;
 
     after.registers.a = a;
     after.registers.ipr.word++;
-    completes(name, &before, &after);
+    completes_through(name, &before, &after, pointer_words);
 }
 
 /* Completes with IPR one on, the word as given, and nothing else changed. */
-static void writes(const char *name, machine before, size_t address, uint64_t word)
+static void writes_through(const char *name, machine before, size_t address, uint64_t word, unsigned pointer_words)
 {
     machine after = before;
 
     after.memory[address] = word;
     after.registers.ipr.word++;
-    completes(name, &before, &after);
+    completes_through(name, &before, &after, pointer_words);
 }
 
 /* Completes with IPR one on, the PR as given, and nothing else changed. */
-static void sets_pr(const char *name, machine before, unsigned number, kuzhlemor_pointer p)
+static void sets_pr_through(const char *name, machine before, unsigned number, kuzhlemor_pointer p, unsigned pointer_words)
 {
     machine after = before;
 
     after.registers.prs[number] = p;
     after.registers.ipr.word++;
-    completes(name, &before, &after);
+    completes_through(name, &before, &after, pointer_words);
 }
 
 /* Completes with IPR as given and nothing else changed. */
-static void goes_to(const char *name, machine before, kuzhlemor_pointer ipr)
+static void goes_to_through(const char *name, machine before, kuzhlemor_pointer ipr, unsigned pointer_words)
 {
     machine after = before;
 
     after.registers.ipr = ipr;
-    completes(name, &before, &after);
+    completes_through(name, &before, &after, pointer_words);
 }
 
 /* Completes with the move that a call makes, and nothing else changed. */
-static void calls(const char *name, machine before, kuzhlemor_pointer ipr)
+static void calls_through(const char *name, machine before, kuzhlemor_pointer ipr, unsigned pointer_words)
 {
     machine after = before;
 
     after.registers.ipr = ipr;
     after.registers.prs[7] = pointer_to(ipr.ring, ipr.ring, 0);
-    completes(name, &before, &after);
+    completes_through(name, &before, &after, pointer_words);
 }
 
-static void faults(const char *name, machine before, uint32_t number, kuzhlemor_pointer at)
+/* Faults, having read so many pointer words. */
+static void faults_through(const char *name, machine before, uint32_t number, kuzhlemor_pointer at, unsigned pointer_words)
 {
-    report(name, &before, &before, fault(number, 0, at));
+    report(name, &before, &before, fault(number, 0, at, pointer_words));
 }
+
+/* The same, with no pointer word read. */
+static void completes(const char *name, const machine *m, const machine *after) { completes_through(name, m, after, 0); }
+static void sets_a(const char *name, machine m, uint64_t a) { sets_a_through(name, m, a, 0); }
+static void writes(const char *name, machine m, size_t address, uint64_t word) { writes_through(name, m, address, word, 0); }
+static void sets_pr(const char *name, machine m, unsigned k, kuzhlemor_pointer p) { sets_pr_through(name, m, k, p, 0); }
+static void goes_to(const char *name, machine m, kuzhlemor_pointer ipr) { goes_to_through(name, m, ipr, 0); }
+static void calls(const char *name, machine m, kuzhlemor_pointer ipr) { calls_through(name, m, ipr, 0); }
+static void faults(const char *name, machine m, uint32_t number, kuzhlemor_pointer at) { faults_through(name, m, number, at, 0); }
 
 static void refuses(const char *name, machine before, uint32_t number)
 {
@@ -164,7 +178,7 @@ static void pointers(void)
     m = desk(4, by_pr(EAP, 1, 3) | reg(6) | I_ON);
     m.memory[DATA_AT + 3] = 0x40050000;
     m.memory[DATA] = descriptor_word(DATA_AT, 16, 0, 4, 4, R | V, 0);
-    sets_pr("case 1 read", m, 6, pointer_to(4, 5, 0));
+    sets_pr_through("case 1 read", m, 6, pointer_to(4, 5, 0), 1);
 
     m = desk(3, by_pr(SPP, 1, 0) | reg(7));
     m.registers.prs[7] = pointer_to(7, 4095, 65535);
@@ -190,30 +204,30 @@ static void pointers(void)
     m.memory[DATA] = descriptor_word(DATA_AT, 16, 4, 7, 7, R | W | V, 0);
     m.memory[DATA_AT] = 0xffffffff00000000 | pointer_word(pointer_to(0, DATA, 9));
     m.memory[DATA_AT + 9] = 5;
-    sets_a("LDA through a pointer word", m, 5);
+    sets_a_through("LDA through a pointer word", m, 5, 1);
 
     /* The effective ring is the largest of TPR's, the pointer's and R1. */
     m = with_other(2, by_pr(EAP, 2, 1) | reg(0) | I_ON, descriptor_word(OTHER_AT, 16, 3, 5, 5, R | V, 0));
     m.memory[OTHER_AT + 1] = pointer_word(pointer_to(1, 77, 88));
-    sets_pr("case 10", m, 0, pointer_to(3, 77, 88));
+    sets_pr_through("case 10", m, 0, pointer_to(3, 77, 88), 1);
     m.memory[OTHER] = descriptor_word(OTHER_AT, 16, 3, 5, 5, R | W | V, 0);
-    sets_pr("case 10 with W on", m, 0, pointer_to(3, 77, 88));
+    sets_pr_through("case 10 with W on", m, 0, pointer_to(3, 77, 88), 1);
     m.memory[OTHER_AT + 1] = pointer_word(pointer_to(6, 77, 88));
-    sets_pr("the pointer's ring is the largest", m, 0, pointer_to(6, 77, 88));
+    sets_pr_through("the pointer's ring is the largest", m, 0, pointer_to(6, 77, 88), 1);
     m.memory[OTHER_AT + 1] = pointer_word(pointer_to(1, 77, 88));
     m.registers.prs[2].ring = 5;
-    sets_pr("the PR's ring is the largest", m, 0, pointer_to(5, 77, 88));
+    sets_pr_through("the PR's ring is the largest", m, 0, pointer_to(5, 77, 88), 1);
     m.registers.prs[2].ring = 2;
     m.memory[OTHER] = descriptor_word(OTHER_AT, 16, 0, 5, 5, R | V, 0);
-    sets_pr("IPR's ring is the largest", m, 0, pointer_to(2, 77, 88));
+    sets_pr_through("IPR's ring is the largest", m, 0, pointer_to(2, 77, 88), 1);
 
     /* The ring that the first pointer word gives is asked at the second. */
     m = with_other(2, by_pr(EAP, 2, 0) | reg(0) | I_ON, descriptor_word(OTHER_AT, 16, 0, 5, 5, R | V, 0));
     m.memory[OTHER_AT] = pointer_word(pointer_to(5, OTHER, 1)) | POINTER_I_ON;
     m.memory[OTHER_AT + 1] = pointer_word(pointer_to(0, 77, 88));
-    sets_pr("the ring stays raised", m, 0, pointer_to(5, 77, 88));
+    sets_pr_through("the ring stays raised", m, 0, pointer_to(5, 77, 88), 2);
     m.memory[OTHER_AT] = pointer_word(pointer_to(6, OTHER, 1)) | POINTER_I_ON;
-    faults("a pointer word above R2", m, 22, pointer_to(6, OTHER, 1));
+    faults_through("a pointer word above R2", m, 22, pointer_to(6, OTHER, 1), 1);
 }
 
 /* `count` pointer words from word 0 of segment 6, the last with I off, to word 3 of segment 5. */
@@ -233,17 +247,168 @@ static void chains(void)
 {
     machine m;
 
-    sets_a("case 13: 64 pointer words", chain(64), 6);
-    faults("case 13: 65 pointer words", chain(65), 31, pointer_to(4, OTHER, 64));
+    sets_a_through("case 13: 64 pointer words", chain(64), 6, 64);
+    faults_through("case 13: 65 pointer words", chain(65), 31, pointer_to(4, OTHER, 64), 64);
 
     /* 31 comes before 11 to 15. */
     m = chain(65);
     m.memory[24 + 63] = pointer_word(pointer_to(0, 4095, 65535)) | POINTER_I_ON;
-    faults("the 65th pointer word in no segment", m, 31, pointer_to(4, 4095, 65535));
+    faults_through("the 65th pointer word in no segment", m, 31, pointer_to(4, 4095, 65535), 64);
 
     m = with_other(4, by_pr(LDA, 2, 0) | I_ON, descriptor_word(OTHER_AT, 16, 0, 4, 4, R | V, 0));
     m.memory[OTHER_AT] = pointer_word(pointer_to(0, OTHER, 0)) | POINTER_I_ON;
-    faults("a pointer word that points to itself", m, 31, pointer_to(4, OTHER, 0));
+    faults_through("a pointer word that points to itself", m, 31, pointer_to(4, OTHER, 0), 64);
+}
+
+/* A desk's step by PR0 whose operand stands at the end of `count` pointer words, of which the last is given. They are by
+ * turns in segments 2 and 3, which are the same words; all rings may read them, and no ring is raised. */
+static machine by_chain(machine m, unsigned count, uint64_t last)
+{
+    m.registers.prs[0] = pointer_to(m.registers.ipr.ring, CHAIN, 0);
+    m.memory[CHAIN] = descriptor_word(CHAIN_AT, 64, 0, 7, 7, R | V, 0);
+    m.memory[CHAIN + 1] = m.memory[CHAIN];
+    for (unsigned k = 1; k < count; k++)
+        m.memory[CHAIN_AT + k - 1] = pointer_word(pointer_to(0, CHAIN + k % 2, k)) | POINTER_I_ON;
+    m.memory[CHAIN_AT + count - 1] = last;
+    return m;
+}
+
+/* 11 to 15 and 22 at each place: as a pointer word that isn't read, and as the operand after those that are. */
+static void broken_chains(void)
+{
+    static const struct {
+        uint32_t number;
+        unsigned segment;
+        unsigned word;
+    } broken[] = {
+        {11, 8, 0}, {12, 0, 0}, {13, 1, 0}, {14, 7, 0}, {15, DATA, 16}, {22, OTHER, 0},
+    };
+    static const unsigned counts[] = {1, 2, 3, 33, 63, 64};
+    machine start = with_other(4, by_pr(LDA, 0, 0) | I_ON, descriptor_word(OTHER_AT, 16, 7, 7, 7, W | E | V, 0));
+    char name[64];
+
+    start.memory[1] = descriptor_word(OTHER_AT, 16, 5, 4, 4, R | V, 0);
+    start.memory[7] = descriptor_word(OTHER_AT, WORDS, 4, 4, 4, R | V, 0);
+    for (size_t k = 0; k < sizeof broken / sizeof broken[0]; k++) {
+        uint32_t number = broken[k].number;
+        kuzhlemor_pointer at = pointer_to(4, broken[k].segment, broken[k].word);
+        machine m = start;
+
+        m.registers.prs[0] = at;
+        snprintf(name, sizeof name, "%u at the first pointer word", number);
+        faults_through(name, m, number, at, 0);
+        for (size_t i = 0; i < sizeof counts / sizeof counts[0]; i++) {
+            unsigned count = counts[i];
+
+            snprintf(name, sizeof name, "%u at the operand after %u pointer words", number, count);
+            faults_through(name, by_chain(start, count, pointer_word(at)), number, at, count);
+            snprintf(name, sizeof name, "%u at the next pointer word after %u", number, count);
+            m = by_chain(start, count, pointer_word(at) | POINTER_I_ON);
+            faults_through(name, m, count == 64 ? 31 : number, at, count);
+        }
+    }
+}
+
+/* An opcode's step in a ring, with a given descriptor for segment 6 and its operand at the end of three pointer words. */
+static machine by_three(unsigned ring, uint64_t instruction, uint64_t descriptor, kuzhlemor_pointer target)
+{
+    return by_chain(with_other(ring, instruction | I_ON, descriptor), 3, pointer_word(target));
+}
+
+/* Whatever is asked after the address is formed, the count is the whole chain's. */
+static void after_chains(void)
+{
+    const uint64_t data = descriptor_word(OTHER_AT, 16, 4, 4, 4, R | W | V, 0);
+    const uint64_t code = descriptor_word(OTHER_AT, 16, 4, 4, 6, E | V, 2);
+    const kuzhlemor_pointer at = pointer_to(4, OTHER, 1);
+    machine m;
+    machine after;
+
+    m = by_three(4, by_pr(LDA, 0, 0), data, at);
+    sets_a_through("LDA after three pointer words", m, m.memory[OTHER_AT + 1], 3);
+    sets_a_through("CNT after three pointer words", by_three(4, by_pr(CNT, 0, 0), data, at), 15, 3);
+    m = by_three(4, by_pr(STA, 0, 0), data, at);
+    writes_through("STA after three pointer words", m, OTHER_AT + 1, m.registers.a, 3);
+    m = by_three(4, by_pr(AOS, 0, 0), data, at);
+    writes_through("AOS after three pointer words", m, OTHER_AT + 1, m.memory[OTHER_AT + 1] + 1, 3);
+    m.memory[OTHER] = descriptor_word(CHAIN_AT, 16, 4, 4, 4, R | W | V, 0);
+    writes_through("AOS of a pointer word of its chain", m, CHAIN_AT + 1, m.memory[CHAIN_AT + 1] + 1, 3);
+    m = by_three(4, by_pr(SPP, 0, 0) | reg(2), data, at);
+    writes_through("SPP after three pointer words", m, OTHER_AT + 1, pointer_word(m.registers.prs[2]), 3);
+    sets_pr_through("EAP after three pointer words", by_three(4, by_pr(EAP, 0, 0) | reg(3), 0, at), 3, at, 3);
+    m = by_chain(desk(4, by_pr(EAP, 0, 0) | reg(3) | I_ON), 64, pointer_word(pointer_to(7, 4095, 65535)));
+    sets_pr_through("EAP after 64 pointer words", m, 3, pointer_to(7, 4095, 65535), 64);
+    faults_through("22 after three pointer words", by_three(4, by_pr(AOS, 0, 0), code, at), 22, at, 3);
+    m = by_three(4, by_pr(AOS, 0, 0), descriptor_word(OTHER_AT, 16, 3, 4, 4, R | W | V, 0), at);
+    faults_through("23 after three pointer words", m, 23, at, 3);
+    m.memory[CODE_AT + 2] = by_pr(STA, 0, 0) | I_ON;
+    faults_through("STA, 23 after three pointer words", m, 23, at, 3);
+    m.memory[CODE_AT + 2] = by_pr(SPP, 0, 0) | I_ON;
+    faults_through("SPP, 23 after three pointer words", m, 23, at, 3);
+
+    goes_to_through("TRA after three pointer words", by_three(4, by_pr(TRA, 0, 0), code, at), at, 3);
+    m = by_three(4, by_pr(TZE, 0, 0), 0, at);
+    goes_to_through("TZE not taken after three pointer words", m, pointer_to(4, CODE, 3), 3);
+    m.registers.a = 0;
+    faults_through("TZE taken, 12 after three pointer words", m, 12, at, 3);
+    m.memory[OTHER] = code;
+    goes_to_through("TZE taken after three pointer words", m, at, 3);
+    m = by_three(4, by_pr(TMI, 0, 0), 0, at);
+    goes_to_through("TMI not taken after three pointer words", m, pointer_to(4, CODE, 3), 3);
+    m = by_three(4, by_pr(TRA, 0, 0), code, pointer_to(5, OTHER, 1));
+    faults_through("24 after three pointer words", m, 24, pointer_to(5, OTHER, 1), 3);
+    faults_through("25 after three pointer words", by_three(4, by_pr(TRA, 0, 0), data, at), 25, at, 3);
+    faults_through("RETURN, 25 after three pointer words", by_three(4, by_pr(RETURN, 0, 0), data, at), 25, at, 3);
+    goes_to_through("RETURN after three pointer words", by_three(4, by_pr(RETURN, 0, 0), code, at), at, 3);
+
+    m = by_three(5, by_pr(CALL, 0, 0), code, pointer_to(5, OTHER, 1));
+    calls_through("CALL after three pointer words", m, at, 3);
+    faults_through("26 after three pointer words", by_three(4, by_pr(CALL, 0, 0), data, at), 26, at, 3);
+    m = by_three(5, by_pr(CALL, 0, 0), code, pointer_to(5, OTHER, 2));
+    faults_through("27 after three pointer words", m, 27, pointer_to(5, OTHER, 2), 3);
+    m = by_three(7, by_pr(CALL, 0, 0), code, pointer_to(7, OTHER, 1));
+    faults_through("28 after three pointer words", m, 28, pointer_to(7, OTHER, 1), 3);
+    m = by_three(3, by_pr(CALL, 0, 0), code, pointer_to(3, OTHER, 1));
+    faults_through("29 after three pointer words", m, 29, pointer_to(3, OTHER, 1), 3);
+    m = by_three(3, by_pr(CALL, 0, 0), descriptor_word(OTHER_AT, 16, 2, 5, 5, E | V, 2), at);
+    faults_through("30 after three pointer words", m, 30, at, 3);
+
+    m = by_three(0, by_pr(LDBR, 0, 0), 0, pointer_to(0, DATA, 3));
+    m.memory[DATA_AT + 3] = dbr_word(40, 20);
+    after = m;
+    after.registers.dbr = (kuzhlemor_dbr){40, 20};
+    after.registers.ipr.word++;
+    completes_through("LDBR after three pointer words", &m, &after, 3);
+    m.memory[DATA_AT + 3] = dbr_word(0, 4097);
+    faults_through("34 after three pointer words", m, 34, pointer_to(0, DATA, 3), 3);
+}
+
+/* Where no address is formed, the chain that the instruction names isn't read. */
+static void unread_chains(void)
+{
+    machine m;
+    machine after;
+
+    m = by_three(4, by_pr(LDI, 0, 0) | lit(9), 0, pointer_to(4, DATA, 0));
+    sets_a("LDI reads no pointer word", m, 9);
+    m.memory[CODE_AT + 2] = by_pr(0, 0, 0) | I_ON;
+    faults("32 reads no pointer word", m, 32, pointer_to(4, CODE, 2));
+    m.memory[CODE_AT + 2] = by_pr(LDBR, 0, 0) | I_ON;
+    faults("33 reads no pointer word", m, 33, pointer_to(4, CODE, 2));
+    m.memory[CODE_AT + 2] = by_pr(LDA, 0, 0) | I_ON;
+    m.memory[CODE] = descriptor_word(CODE_AT, 16, 4, 4, 4, R | W | V, 0);
+    faults("21 reads no pointer word", m, 21, pointer_to(4, CODE, 2));
+    m.memory[CODE] = descriptor_word(CODE_AT, 2, 4, 4, 4, R | E | V, 0);
+    faults("a fetch's 15 reads no pointer word", m, 15, pointer_to(4, CODE, 2));
+    m.registers.prs[5].ring = 3;
+    refuses("a refusal reads no pointer word", m, 3);
+    m = by_three(0, by_pr(HLT, 0, 0), 0, pointer_to(0, DATA, 0));
+    after = m;
+    after.registers.ipr.word++;
+    report("HLT reads no pointer word", &m, &after, halted(1, 0));
+    m = by_three(4, by_pr(LDA, 0, 0), 0, pointer_to(4, DATA, 0));
+    m.memory[CODE_AT + 2] = by_pr(LDA, 0, 0);
+    sets_a("with I off a pointer word is an operand", m, m.memory[CHAIN_AT]);
 }
 
 static void transfers(void)
@@ -319,7 +484,7 @@ static void calls_and_returns(void)
     m = with_other(5, by_pr(CALL, 1, 0) | I_ON, rings_4_4_6);
     m.memory[DATA] = descriptor_word(DATA_AT, 16, 0, 5, 5, R | V, 0);
     m.memory[DATA_AT] = pointer_word(pointer_to(6, OTHER, 1));
-    calls("CALL through a pointer word", m, pointer_to(4, OTHER, 1));
+    calls_through("CALL through a pointer word", m, pointer_to(4, OTHER, 1), 1);
 
     /* Within its own segment a call needs no gate, but 30 is asked. */
     calls("CALL within the segment, past its gates", desk(4, near(CALL, 5)), pointer_to(4, CODE, 7));
@@ -531,11 +696,11 @@ static void opcodes(void)
     m = desk(0, near(HLT, 0));
     after = m;
     after.registers.ipr.word++;
-    report("HLT", &m, &after, halted(1));
+    report("HLT", &m, &after, halted(1, 0));
     m = desk(0, by_pr(HLT, 5, 9) | I_ON | reg(3) | lit(8));
     after = m;
     after.registers.ipr.word++;
-    report("HLT forms no address", &m, &after, halted(1));
+    report("HLT forms no address", &m, &after, halted(1, 0));
     faults("HLT in ring 1", desk(1, near(HLT, 0)), 33, pointer_to(1, CODE, 2));
     faults("HLT in ring 7", desk(7, near(HLT, 0)), 33, pointer_to(7, CODE, 2));
     faults("LDBR in ring 1", desk(1, by_pr(LDBR, 1, 0)), 33, pointer_to(1, CODE, 2));
@@ -701,6 +866,9 @@ void each_case(expectation *expect)
     a_and_memory();
     pointers();
     chains();
+    broken_chains();
+    after_chains();
+    unread_chains();
     transfers();
     calls_and_returns();
     brackets();

@@ -58,19 +58,19 @@ kuzhlemor_reply refused(uint32_t number)
     return (kuzhlemor_reply){.kind = 0, .number = number};
 }
 
-kuzhlemor_reply spent(uint32_t count)
+kuzhlemor_reply spent(uint32_t count, uint64_t pointer_words)
 {
-    return (kuzhlemor_reply){.kind = 1, .count = count};
+    return (kuzhlemor_reply){.kind = 1, .count = count, .pointer_words = pointer_words};
 }
 
-kuzhlemor_reply halted(uint32_t count)
+kuzhlemor_reply halted(uint32_t count, uint64_t pointer_words)
 {
-    return (kuzhlemor_reply){.kind = 2, .count = count};
+    return (kuzhlemor_reply){.kind = 2, .count = count, .pointer_words = pointer_words};
 }
 
-kuzhlemor_reply fault(uint32_t number, uint32_t count, kuzhlemor_pointer pointer)
+kuzhlemor_reply fault(uint32_t number, uint32_t count, kuzhlemor_pointer pointer, uint64_t pointer_words)
 {
-    return (kuzhlemor_reply){3, number, count, pointer};
+    return (kuzhlemor_reply){3, number, count, pointer, pointer_words};
 }
 
 static void print_pointer(kuzhlemor_pointer p)
@@ -83,6 +83,7 @@ static void print_end(const char *label, const machine *m, kuzhlemor_reply reply
     fprintf(stderr, "%s: kind %" PRIu32 ", number %" PRIu32 ", count %" PRIu32 ", at", label, reply.kind, reply.number,
             reply.count);
     print_pointer(reply.pointer);
+    fprintf(stderr, ", %" PRIu64 " pointer words", reply.pointer_words);
     fprintf(stderr, "; A %016" PRIx64 ", DBR %" PRIu32 "+%u, IPR", m->registers.a, m->registers.dbr.address,
             m->registers.dbr.length);
     print_pointer(m->registers.ipr);
@@ -108,7 +109,8 @@ void check_end(const char *who, const char *name, const machine *got, kuzhlemor_
     check(ok, "%s: %s", who, name);
 }
 
-kuzhlemor_reply run_plain(machine *m, uint32_t budget)
+/* plain_run, or plain_step where it is a `single` step. */
+static kuzhlemor_reply call_plain(machine *m, bool single, uint32_t budget)
 {
     size_t bytes = m->words * sizeof m->memory[0];
     uint64_t *block = malloc(bytes + sizeof m->memory[0]);
@@ -122,10 +124,20 @@ kuzhlemor_reply run_plain(machine *m, uint32_t budget)
     /* The block's last words are lent: what is past them is past the block. */
     memory = block + 1;
     memcpy(memory, m->memory, bytes);
-    reply = plain_run(&m->registers, memory, m->words, budget);
+    reply = single ? plain_step(&m->registers, memory, m->words) : plain_run(&m->registers, memory, m->words, budget);
     memcpy(m->memory, memory, bytes);
     free(block);
     return reply;
+}
+
+kuzhlemor_reply run_plain(machine *m, uint32_t budget)
+{
+    return call_plain(m, false, budget);
+}
+
+kuzhlemor_reply step_plain(machine *m)
+{
+    return call_plain(m, true, 1);
 }
 
 /* Pseudo-random numbers by the splitmix64 recurrence, from a fixed seed. */
@@ -377,15 +389,18 @@ static unsigned opcode_at_ipr(const machine *m)
 
 void count_step(tally *t, const machine *before, kuzhlemor_reply reply)
 {
+    check(reply.pointer_words <= 64, "a step of %" PRIu64 " pointer words", reply.pointer_words);
     switch (reply.kind) {
     case KUZHLEMOR_REFUSED:
         t->refused[reply.number]++;
         break;
     case KUZHLEMOR_FAULT:
         t->faults[reply.number]++;
+        t->faults_through[reply.pointer_words]++;
         break;
     default:
         t->completed[opcode_at_ipr(before)]++;
+        t->completed_through[reply.pointer_words]++;
         break;
     }
 }
@@ -399,4 +414,8 @@ void check_tally(const tally *t)
     for (int number = 11; number <= 34; number++)
         if (number <= 15 || number >= 21)
             check(t->faults[number] > 0, "no random machine gave fault %d", number);
+    for (int length = 0; length <= 4; length++) {
+        check(t->completed_through[length] > 0, "no random machine completed a step of %d pointer words", length);
+        check(t->faults_through[length] > 0, "no random machine faulted after %d pointer words", length);
+    }
 }

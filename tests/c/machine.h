@@ -29,10 +29,11 @@ machine empty_machine(size_t words);
 /* All registers, words and guards. */
 bool same_machine(const machine *x, const machine *y);
 
+/* Replies, with their numbers in the order of a listing's last line. */
 kuzhlemor_reply refused(uint32_t number);
-kuzhlemor_reply spent(uint32_t count);
-kuzhlemor_reply halted(uint32_t count);
-kuzhlemor_reply fault(uint32_t number, uint32_t count, kuzhlemor_pointer pointer);
+kuzhlemor_reply spent(uint32_t count, uint64_t pointer_words);
+kuzhlemor_reply halted(uint32_t count, uint64_t pointer_words);
+kuzhlemor_reply fault(uint32_t number, uint32_t count, kuzhlemor_pointer pointer, uint64_t pointer_words);
 
 /* Counts a check. If it fails: the message, and the program ends with 1. */
 extern unsigned long checks;
@@ -42,8 +43,9 @@ void check(bool ok, const char *format, ...) __attribute__((format(printf, 2, 3)
 void check_end(const char *who, const char *name, const machine *got, kuzhlemor_reply got_reply, const machine *wanted,
                kuzhlemor_reply wanted_reply);
 
-/* plain_run on memory that is a block of just its size, so that a sanitizer sees its end. */
+/* plain_run and plain_step on memory that is a block of just its size, so that a sanitizer sees its end. */
 kuzhlemor_reply run_plain(machine *m, uint32_t budget);
+kuzhlemor_reply step_plain(machine *m);
 
 /* Hands on each case of cases.c: the machine before and after one step, and the step's reply. */
 typedef void expectation(const char *name, const machine *before, const machine *after, kuzhlemor_reply reply);
@@ -56,17 +58,20 @@ machine case_12(void);
 machine random_machine(void);
 uint32_t random_below(uint32_t bound);
 
-/* What has been seen of replies, and which opcodes have completed. */
+/* What has been seen of replies, which opcodes have completed, and how many pointer words steps have read. */
 typedef struct {
     unsigned long refused[5];
     unsigned long completed[256];
     unsigned long faults[35];
+    unsigned long completed_through[65];
+    unsigned long faults_through[65];
 } tally;
 
 /* Adds a step's reply; `before` is the machine that it started from. */
 void count_step(tally *t, const machine *before, kuzhlemor_reply reply);
 
-/* Checks that every opcode has completed and that 2 to 4, 11 to 15 and 21 to 34 have all been answered. */
+/* Checks that every opcode has completed, that 2 to 4, 11 to 15 and 21 to 34 have all been answered, and that there were
+ * chains of each length up to 4 in completed steps and in faulting ones. */
 void check_tally(const tally *t);
 
 #endif

@@ -88,7 +88,7 @@ static kuzhlemor_reply call(machine *m, bool single, uint32_t budget, const char
     const uint8_t *const paddings[] = {zero, full, random, random};
     const char *who = single ? "kuzhlemor_step" : "kuzhlemor_run";
     machine wanted = *m;
-    kuzhlemor_reply reply = run_plain(&wanted, budget);
+    kuzhlemor_reply reply = single ? step_plain(&wanted) : run_plain(&wanted, budget);
 
     memset(full, 0xff, sizeof full);
     for (int k = 0; k < 4; k++) {

@@ -1,5 +1,5 @@
-/* kuzhlemor_run as the firmware calls it: every case with budgets 0 and 1, how runs end, and random machines against
- * plain C, against single steps, and against the same run in two parts. */
+/* kuzhlemor_run as the firmware calls it: every case with budgets 0 and 1, how runs end, their pointer words, and random
+ * machines against plain C, against single steps, and against the same run in two parts. */
 #include "machine.h"
 
 #include <stdio.h>
@@ -28,11 +28,13 @@ static void expect_run(const char *name, const machine *before, uint32_t budget,
     check_end("plain_run", name, &m, got, after, reply);
 }
 
-/* With a budget of 1 a run is the step; with 0 it asks 1 to 4 and no more. */
+/* With a budget of 1 a run is the step, but that its total has no faulting step in it; with 0 it asks 1 to 4 and no more. */
 static void expect_step(const char *name, const machine *before, const machine *after, kuzhlemor_reply reply)
 {
+    if (reply.kind == KUZHLEMOR_FAULT)
+        reply.pointer_words = 0;
     expect_run(name, before, 1, after, reply);
-    expect_run(name, before, 0, before, reply.kind == KUZHLEMOR_REFUSED ? reply : spent(0));
+    expect_run(name, before, 0, before, reply.kind == KUZHLEMOR_REFUSED ? reply : spent(0, 0));
 }
 
 static void case_12_by_budgets(void)
@@ -46,12 +48,12 @@ static void case_12_by_budgets(void)
     after_2 = after_1;
     after_2.registers.ipr = pointer_to(1, 5, 0);
     after_2.registers.prs[7] = pointer_to(1, 1, 0);
-    expect_run("case 12, budget 0", &start, 0, &start, spent(0));
-    expect_run("case 12, budget 1", &start, 1, &after_1, spent(1));
-    expect_run("case 12, budget 2", &start, 2, &after_2, spent(2));
-    expect_run("case 12, budget 3", &start, 3, &after_2, fault(23, 2, pointer_to(4, 3, 0)));
-    expect_run("case 12", &start, 9, &after_2, fault(23, 2, pointer_to(4, 3, 0)));
-    expect_run("case 12, the largest budget", &start, UINT32_MAX, &after_2, fault(23, 2, pointer_to(4, 3, 0)));
+    expect_run("case 12, budget 0", &start, 0, &start, spent(0, 0));
+    expect_run("case 12, budget 1", &start, 1, &after_1, spent(1, 0));
+    expect_run("case 12, budget 2", &start, 2, &after_2, spent(2, 0));
+    expect_run("case 12, budget 3", &start, 3, &after_2, fault(23, 2, pointer_to(4, 3, 0), 0));
+    expect_run("case 12", &start, 9, &after_2, fault(23, 2, pointer_to(4, 3, 0), 0));
+    expect_run("case 12, the largest budget", &start, UINT32_MAX, &after_2, fault(23, 2, pointer_to(4, 3, 0), 0));
 }
 
 /* A program in ring 0 that counts word 10 of its segment down and word 11 up, and then halts. */
@@ -89,17 +91,130 @@ static void ends(void)
     end.memory[27] = rounds;
     before_halt = end;
     before_halt.registers.ipr.word = 6;
-    expect_run("spent one step before HLT", &start, steps - 1, &before_halt, spent(steps - 1));
-    expect_run("HLT as the last step of the budget", &start, steps, &end, halted(steps));
-    expect_run("HLT with budget left", &start, steps + 1, &end, halted(steps));
-    expect_run("HLT, the largest budget", &start, UINT32_MAX, &end, halted(steps));
-    expect_run("a run that begins with HLT", &before_halt, 5, &end, halted(1));
-    expect_run("a run that begins with a fault", &end, 5, &end, fault(32, 0, pointer_to(0, 1, 7)));
+    expect_run("spent one step before HLT", &start, steps - 1, &before_halt, spent(steps - 1, 0));
+    expect_run("HLT as the last step of the budget", &start, steps, &end, halted(steps, 0));
+    expect_run("HLT with budget left", &start, steps + 1, &end, halted(steps, 0));
+    expect_run("HLT, the largest budget", &start, UINT32_MAX, &end, halted(steps, 0));
+    expect_run("a run that begins with HLT", &before_halt, 5, &end, halted(1, 0));
+    expect_run("a run that begins with a fault", &end, 5, &end, fault(32, 0, pointer_to(0, 1, 7), 0));
 
     broken = start;
     broken.registers.prs[5].segment = 4096;
     expect_run("refused, budget 0", &broken, 0, &broken, refused(2));
     expect_run("refused, the largest budget", &broken, UINT32_MAX, &broken, refused(2));
+}
+
+/* A program in ring 0 by whose chains the first five steps read 3, 1, 0, 64 and 2 pointer words. Pointer words 0 to 63 of its
+ * data lead to word 64, so that a chain from word k has 64 - k; its sixth instruction is given. */
+static machine chains(uint64_t sixth)
+{
+    machine m = empty_machine(128);
+    uint64_t *code = &m.memory[8];
+    uint64_t *data = &m.memory[24];
+
+    m.registers.dbr = (kuzhlemor_dbr){0, 3};
+    m.registers.ipr = pointer_to(0, 1, 0);
+    m.registers.prs[1] = pointer_to(0, 2, 0);
+    m.memory[1] = descriptor_word(8, 16, 0, 0, 0, R | E | V, 0);
+    m.memory[2] = descriptor_word(24, 104, 0, 0, 0, R | W | V, 0);
+    code[0] = by_pr(LDA, 1, 61) | I_ON;
+    code[1] = by_pr(ADA, 1, 63) | I_ON;
+    code[2] = by_pr(LDI, 1, 0) | I_ON | lit(5);
+    code[3] = by_pr(STA, 1, 0) | I_ON;
+    code[4] = by_pr(TZE, 1, 62) | I_ON;
+    code[5] = sixth;
+    for (unsigned k = 0; k < 63; k++)
+        data[k] = pointer_word(pointer_to(0, 2, k + 1)) | POINTER_I_ON;
+    data[63] = pointer_word(pointer_to(0, 2, 64));
+    data[64] = 6;
+    /* Two pointer words and a third in no segment; and one that points to itself. */
+    data[80] = pointer_word(pointer_to(0, 2, 81)) | POINTER_I_ON;
+    data[81] = pointer_word(pointer_to(0, 3, 7)) | POINTER_I_ON;
+    data[90] = pointer_word(pointer_to(0, 2, 90)) | POINTER_I_ON;
+    return m;
+}
+
+/* What `chains` leaves after its first five steps. */
+static machine after_five(const machine *start)
+{
+    machine m = *start;
+
+    m.registers.a = 5;
+    m.registers.ipr.word = 5;
+    m.memory[24 + 64] = 5;
+    return m;
+}
+
+/* The sixth step faults: its pointer words are its own answer's, and in no run's total. */
+static void expect_fault(const char *name, uint64_t sixth, uint32_t number, kuzhlemor_pointer at, uint64_t pointer_words)
+{
+    machine start = chains(sixth);
+    machine end = after_five(&start);
+    machine m = end;
+
+    expect_run(name, &start, 5, &end, spent(5, 70));
+    expect_run(name, &start, 6, &end, fault(number, 5, at, 70));
+    expect_run(name, &start, UINT32_MAX, &end, fault(number, 5, at, 70));
+    expect_run(name, &end, 1, &end, fault(number, 0, at, 0));
+    check_end("kuzhlemor_step", name, &m, kuzhlemor_step(&m.registers, m.memory, m.words), &end,
+              fault(number, 0, at, pointer_words));
+}
+
+static void totals(void)
+{
+    static const uint64_t total[] = {0, 3, 4, 4, 68, 70};
+    static const uint64_t a[] = {0, 6, 12, 5, 5, 5};
+    machine start = chains(by_pr(HLT, 1, 0) | I_ON);
+    machine end = after_five(&start);
+    machine m = start;
+    machine wanted = start;
+    char name[64];
+
+    for (uint32_t k = 0; k < 6; k++) {
+        wanted.registers.a = a[k];
+        wanted.registers.ipr.word = (uint16_t)k;
+        wanted.memory[24 + 64] = k < 4 ? 6 : 5;
+        snprintf(name, sizeof name, "chains, budget %u", (unsigned)k);
+        expect_run(name, &start, k, &wanted, spent(k, total[k]));
+        if (k > 0) {
+            snprintf(name, sizeof name, "chains, step %u", (unsigned)k);
+            check_end("kuzhlemor_step", name, &m, kuzhlemor_step(&m.registers, m.memory, m.words), &wanted,
+                      spent(1, total[k] - total[k - 1]));
+        }
+    }
+    end.registers.ipr.word = 6;
+    expect_run("chains, HLT on the last step", &start, 6, &end, halted(6, 70));
+    expect_run("chains, HLT with budget left", &start, UINT32_MAX, &end, halted(6, 70));
+    expect_run("chains, HLT alone", &wanted, 1, &end, halted(1, 0));
+
+    /* In parts: a run's total begins with it. */
+    m = start;
+    check(same_reply(run(&m, 2), spent(2, 4)), "chains, the first two steps");
+    check(same_reply(run(&m, 0), spent(0, 0)), "chains, no step");
+    check(same_reply(run(&m, 2), spent(2, 64)), "chains, the next two");
+    check_end("kuzhlemor_run", "chains, the last two", &m, run(&m, 2), &end, halted(2, 2));
+    m.registers.prs[1].ring = 8;
+    end = m;
+    expect_run("chains, refused", &m, 6, &end, refused(2));
+
+    expect_fault("11 at the third pointer word", by_pr(LDA, 1, 80) | I_ON, 11, pointer_to(0, 3, 7), 2);
+    expect_fault("31", by_pr(LDA, 1, 90) | I_ON, 31, pointer_to(0, 2, 90), 64);
+    expect_fault("25 after three pointer words", by_pr(TRA, 1, 61) | I_ON, 25, pointer_to(0, 2, 64), 3);
+    expect_fault("15 at the first pointer word", by_pr(LDA, 1, 104) | I_ON, 15, pointer_to(0, 2, 104), 0);
+    expect_fault("32 after chains", I_ON, 32, pointer_to(0, 1, 5), 0);
+
+    /* A fault before any step completes: 31 at once. */
+    start = chains(0);
+    start.memory[8] = by_pr(LDA, 1, 90) | I_ON;
+    expect_run("31 at once", &start, 9, &start, fault(31, 0, pointer_to(0, 2, 90), 0));
+
+    /* 100,000 times 64 pointer words. */
+    start = chains(0);
+    start.memory[8] = by_pr(LDA, 1, 0) | I_ON;
+    start.memory[9] = near(TRA, -1);
+    end = start;
+    end.registers.a = 6;
+    expect_run("long chains for long", &start, 200000, &end, spent(200000, 6400000));
 }
 
 /* 1, of 16,777,217 words; one less isn't refused. */
@@ -110,7 +225,7 @@ static void largest_memory(void)
     kuzhlemor_registers before = r;
 
     check(memory != NULL, "no memory for the largest memory");
-    check(same_reply(kuzhlemor_run(&r, memory, MOST_WORDS, 9), fault(12, 0, r.ipr)) && same_registers(&r, &before),
+    check(same_reply(kuzhlemor_run(&r, memory, MOST_WORDS, 9), fault(12, 0, r.ipr, 0)) && same_registers(&r, &before),
           "largest memory");
     check(same_reply(kuzhlemor_run(&r, memory, MOST_WORDS + 1, 9), refused(1)) && same_registers(&r, &before),
           "1: one word too many");
@@ -126,7 +241,7 @@ static void largest_memory(void)
           "4: 4,097 descriptors within memory");
     r.dbr.length = 4096;
     before = r;
-    check(same_reply(kuzhlemor_run(&r, memory, MOST_WORDS, 9), fault(12, 0, r.ipr)) && same_registers(&r, &before),
+    check(same_reply(kuzhlemor_run(&r, memory, MOST_WORDS, 9), fault(12, 0, r.ipr, 0)) && same_registers(&r, &before),
           "4,096 descriptors");
     for (size_t k = 0; k <= MOST_WORDS; k++)
         if (memory[k] != 0)
@@ -137,15 +252,21 @@ static void largest_memory(void)
 /* The same run by single steps. */
 static kuzhlemor_reply run_by_steps(machine *m, uint32_t budget)
 {
+    uint64_t total = 0;
+
     for (uint32_t count = 0; count < budget; count++) {
         kuzhlemor_reply reply = kuzhlemor_step(&m->registers, m->memory, m->words);
 
+        if (reply.kind == KUZHLEMOR_FAULT)
+            reply.pointer_words = 0;
+        total += reply.pointer_words;
         if (reply.kind != KUZHLEMOR_SPENT) {
             reply.count += count;
+            reply.pointer_words = total;
             return reply;
         }
     }
-    return budget == 0 ? run(m, 0) : spent(budget);
+    return budget == 0 ? run(m, 0) : spent(budget, total);
 }
 
 /* The same run as one of j steps and one of k. */
@@ -154,8 +275,11 @@ static kuzhlemor_reply run_in_parts(machine *m, uint32_t j, uint32_t k)
     kuzhlemor_reply reply = run(m, j);
 
     if (reply.kind == KUZHLEMOR_SPENT) {
+        uint64_t first = reply.pointer_words;
+
         reply = run(m, k);
         reply.count += j;
+        reply.pointer_words += first;
     }
     return reply;
 }
@@ -167,6 +291,9 @@ static void random_machines(void)
     unsigned long halts_on_last = 0;
     unsigned long late_faults = 0;
     unsigned long long_runs = 0;
+    unsigned long chained_halts = 0;
+    unsigned long chained_faults = 0;
+    unsigned long long_chains = 0;
 
     for (int k = 0; k < MACHINES; k++) {
         machine start = random_machine();
@@ -191,19 +318,25 @@ static void random_machines(void)
         m = start;
         got = run(&m, reply.count);
         check_end("kuzhlemor_run of its count", name, &m, got, &wanted,
-                  reply.kind == KUZHLEMOR_FAULT ? spent(reply.count) : reply);
+                  reply.kind == KUZHLEMOR_FAULT ? spent(reply.count, reply.pointer_words) : reply);
 
         refusals += reply.kind == KUZHLEMOR_REFUSED;
         halts += reply.kind == KUZHLEMOR_HALTED && reply.count < budget;
         halts_on_last += reply.kind == KUZHLEMOR_HALTED && reply.count == budget;
         late_faults += reply.kind == KUZHLEMOR_FAULT && reply.count >= 10;
         long_runs += reply.kind == KUZHLEMOR_SPENT && reply.count >= 100;
+        chained_halts += reply.kind == KUZHLEMOR_HALTED && reply.pointer_words > 0;
+        chained_faults += reply.kind == KUZHLEMOR_FAULT && reply.pointer_words > 0;
+        long_chains += reply.pointer_words > 64;
     }
     check(refusals > 0, "no random machine was refused");
     check(halts > 0, "no random machine halted with budget left");
     check(halts_on_last > 0, "no random machine halted on the last step of its budget");
     check(late_faults > 0, "no random machine faulted after ten steps");
     check(long_runs > 0, "no random machine made a hundred steps");
+    check(chained_halts > 0, "no random machine halted after pointer words");
+    check(chained_faults > 0, "no random machine faulted after completed steps with pointer words");
+    check(long_chains > 0, "no random machine read more pointer words than one step can");
 }
 
 int main(void)
@@ -211,6 +344,7 @@ int main(void)
     each_case(expect_step);
     case_12_by_budgets();
     ends();
+    totals();
     largest_memory();
     random_machines();
     printf("tests/c/run: %lu checks passed\n", checks);

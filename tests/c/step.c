@@ -50,23 +50,23 @@ static void steps_in_sequence(void)
 
     wanted.registers.a = m.memory[24];
     wanted.registers.ipr.word = 1;
-    check_end("kuzhlemor_step", "sequence, LDA", &m, step(&m), &wanted, spent(1));
+    check_end("kuzhlemor_step", "sequence, LDA", &m, step(&m), &wanted, spent(1, 0));
     wanted.memory[18] = m.memory[24];
     wanted.registers.ipr.word = 2;
-    check_end("kuzhlemor_step", "sequence, STA over the next instruction", &m, step(&m), &wanted, spent(1));
+    check_end("kuzhlemor_step", "sequence, STA over the next instruction", &m, step(&m), &wanted, spent(1, 0));
     wanted.registers.a = 5;
     wanted.registers.ipr.word = 3;
-    check_end("kuzhlemor_step", "sequence, the instruction written", &m, step(&m), &wanted, spent(1));
+    check_end("kuzhlemor_step", "sequence, the instruction written", &m, step(&m), &wanted, spent(1, 0));
     wanted.registers.dbr = (kuzhlemor_dbr){40, 2};
     wanted.registers.ipr.word = 4;
-    check_end("kuzhlemor_step", "sequence, LDBR", &m, step(&m), &wanted, spent(1));
+    check_end("kuzhlemor_step", "sequence, LDBR", &m, step(&m), &wanted, spent(1, 0));
     wanted.registers.ipr.word = 5;
-    check_end("kuzhlemor_step", "sequence, HLT by the new descriptor", &m, step(&m), &wanted, halted(1));
-    check_end("kuzhlemor_step", "sequence, after HLT", &m, step(&m), &wanted, fault(32, 0, pointer_to(0, 1, 5)));
+    check_end("kuzhlemor_step", "sequence, HLT by the new descriptor", &m, step(&m), &wanted, halted(1, 0));
+    check_end("kuzhlemor_step", "sequence, after HLT", &m, step(&m), &wanted, fault(32, 0, pointer_to(0, 1, 5), 0));
     m.registers.ipr.word = 6;
     wanted.registers.ipr.word = 6;
     check_end("kuzhlemor_step", "sequence, past the new segment", &m, step(&m), &wanted,
-              fault(15, 0, pointer_to(0, 1, 6)));
+              fault(15, 0, pointer_to(0, 1, 6), 0));
 }
 
 /* Memory that is the end of an array: a pointer to no words. */
@@ -81,7 +81,7 @@ static void no_words(void)
         r.prs[k].ring = 3;
     before = r;
     reply = kuzhlemor_step(&r, array + 4, 0);
-    check(same_reply(reply, fault(11, 0, r.ipr)) && same_registers(&r, &before), "no words at an array's end");
+    check(same_reply(reply, fault(11, 0, r.ipr, 0)) && same_registers(&r, &before), "no words at an array's end");
     r.dbr.length = 1;
     before = r;
     reply = kuzhlemor_step(&r, array + 4, 0);
@@ -125,15 +125,15 @@ static void largest_memory(void)
     /* 65,533 and 3 is word 0. */
     values[0] = 77;
     wanted.ipr.word = 65534;
-    check(same_reply(kuzhlemor_step(&r, memory, MOST_WORDS), spent(1)) && same_registers(&r, &wanted) &&
+    check(same_reply(kuzhlemor_step(&r, memory, MOST_WORDS), spent(1, 0)) && same_registers(&r, &wanted) &&
               only(memory, MOST_WORDS + 1, addresses, values, 4),
           "largest memory, STA at word 0 from word 65,533");
     wanted.a = 9;
     wanted.ipr.word = 65535;
-    check(same_reply(kuzhlemor_step(&r, memory, MOST_WORDS), spent(1)) && same_registers(&r, &wanted) &&
+    check(same_reply(kuzhlemor_step(&r, memory, MOST_WORDS), spent(1, 0)) && same_registers(&r, &wanted) &&
               only(memory, MOST_WORDS + 1, addresses, values, 4),
           "largest memory, LDI at word 65,534");
-    check(same_reply(kuzhlemor_step(&r, memory, MOST_WORDS), fault(15, 0, r.ipr)) && same_registers(&r, &wanted) &&
+    check(same_reply(kuzhlemor_step(&r, memory, MOST_WORDS), fault(15, 0, r.ipr, 0)) && same_registers(&r, &wanted) &&
               only(memory, MOST_WORDS + 1, addresses, values, 4),
           "largest memory, no word 65,535");
 
@@ -170,10 +170,10 @@ static void longest_descriptor_segment(void)
     wanted = r;
     wanted.dbr.length = 4096;
     wanted.ipr.word = 1;
-    check(same_reply(kuzhlemor_step(&r, memory, 8192), spent(1)) && same_registers(&r, &wanted) &&
+    check(same_reply(kuzhlemor_step(&r, memory, 8192), spent(1, 0)) && same_registers(&r, &wanted) &&
               only(memory, 8192, addresses, values, 5),
           "LDBR of 4,096 descriptors");
-    check(same_reply(kuzhlemor_step(&r, memory, 8192), fault(34, 0, pointer_to(0, 1, 3))) &&
+    check(same_reply(kuzhlemor_step(&r, memory, 8192), fault(34, 0, pointer_to(0, 1, 3), 0)) &&
               same_registers(&r, &wanted) && only(memory, 8192, addresses, values, 5),
           "34: 4,097 descriptors within memory");
 }
@@ -192,7 +192,7 @@ static void random_machines(void)
         do {
             machine before = m;
             machine other = m;
-            kuzhlemor_reply wanted = run_plain(&other, 1);
+            kuzhlemor_reply wanted = step_plain(&other);
 
             snprintf(name, sizeof name, "random machine %d, step %d", k, steps);
             reply = step(&m);

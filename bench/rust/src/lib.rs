@@ -30,6 +30,7 @@ pub struct CReply {
     number: u32,
     count: u32,
     pointer: CPointer,
+    pointer_words: u64,
 }
 
 fn from_c(p: CPointer) -> Pointer {
@@ -60,11 +61,11 @@ pub unsafe extern "C" fn rust_run(registers: *mut CRegisters, memory: *mut u64, 
     record.prs = registers.pr.map(to_c);
     let (kind, number, count, pointer) = match reply {
         Reply::Refused { number } => (0, number, 0, Pointer::default()),
-        Reply::Spent { count } => (1, 0, count, Pointer::default()),
-        Reply::Halted { count } => (2, 0, count, Pointer::default()),
-        Reply::Fault { fault: Fault { number, at }, count } => (3, number, count, at),
+        Reply::Spent { count, .. } => (1, 0, count, Pointer::default()),
+        Reply::Halted { count, .. } => (2, 0, count, Pointer::default()),
+        Reply::Fault { fault: Fault { number, at }, count, .. } => (3, number, count, at),
     };
-    CReply { kind, number: u32::from(number), count, pointer: to_c(pointer) }
+    CReply { kind, number: u32::from(number), count, pointer: to_c(pointer), pointer_words: reply.pointer_words() }
 }
 
 /// As kuzhlemor_bench.

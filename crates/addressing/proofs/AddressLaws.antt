@@ -12,7 +12,7 @@ use Rattle.model.specs.Questions.{all, pointer-in-range}
 use Rattle.model.specs.Step.{first-address, next-address}
 use Rattle.model.proofs.WordLaws.{Within, in-range-within}
 use Rattle.model.proofs.ListLaws.{all-get}
-use Rattle.segments.specs.View.{as-pointers, pr-of}
+use Rattle.state.specs.View.{as-pointers, pr-of}
 
 -- WHERE A POINTER WORD LEADS
 pub next-address-same : (t : Pointer) (d : Words.Descriptor) (w l k n s i r : ℕ) →

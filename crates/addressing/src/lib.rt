@@ -7,19 +7,20 @@ ghost use Rattle.model.specs.Words.{instruction-in, descriptor-in};
 ghost use Rattle.model.specs.Questions.{all, pointer-in-range};
 ghost use Rattle.model.specs.Step as Step;
 ghost use Rattle.words.specs.View.{as-pointer, Pointer-within};
-ghost use Rattle.segments.specs.View.{as-dbr, as-pointers, as-registers};
+ghost use Rattle.segments.specs.Translation.{as-dbr};
+ghost use Rattle.state.specs.View.{as-pointers, as-registers};
 ghost use Rattle.addressing.specs.Address.{Addressed};
+use questions::Use;
 use segments::access::Accessed;
-use segments::questions::Use;
-use segments::state::Core;
 use segments::translate::Dbr;
+use state::Core;
 use words::descriptor::Descriptor;
 use words::pointer::Pointer;
 
-// A fault with its pointer, or TPR.
+// A fault with its pointer, or TPR; and how many pointer words were read.
 pub enum Address {
-    Bad(u8, Pointer),
-    Good(Pointer),
+    Bad(u8, Pointer, u64),
+    Good(Pointer, u64),
 }
 
 // Where a pointer word read at `t` leads: the ring is the largest of the three.
@@ -29,7 +30,7 @@ fn next_address(t: Pointer, d: Descriptor, w: u64) -> Pointer
 {
     let mut p = words::pointer::decode(w);
     let r1 = words::descriptor::r1_of(d);
-    p.ring = segments::state::larger(segments::state::larger(t.ring, r1), p.ring);
+    p.ring = state::larger(state::larger(t.ring, r1), p.ring);
     p
 }
 
@@ -38,16 +39,16 @@ pub fn effective(dbr: Dbr, memory: &[u64], first: Pointer) -> Address
     requires { ⌜ (dbr .address + dbr .length ≤ length (now memory)) × Pointer-within first ⌝ }
     ensures { λ x. ⌜ Addressed (as-dbr dbr) (now (memory .entry)) (as-pointer first) x ⌝ }
 {
-    let mut left: u8 = 64;
+    let mut left: u64 = 64;
     let mut more = true;
     let mut t = first;
     while more {
         if left == 0 {
-            return Address::Bad(31, t);
+            return Address::Bad(31, t, 64);
         }
         match segments::access::read(Use::Read, dbr, memory, t) {
             Accessed::Refused(n) => {
-                return Address::Bad(n, t);
+                return Address::Bad(n, t, 64 - left);
             }
             Accessed::Word(d, w) => {
                 t = next_address(t, d, w);
@@ -56,7 +57,7 @@ pub fn effective(dbr: Dbr, memory: &[u64], first: Pointer) -> Address
         }
         left -= 1;
     }
-    Address::Good(t)
+    Address::Good(t, 64 - left)
 }
 
 // P off: from IPR. P on: from the PR, in the larger of the two rings.
@@ -67,9 +68,9 @@ pub fn first_address(core: Core, prs: &[u16; 24], w: u64) -> Pointer
     let ipr = core.ipr;
     let by = words::instruction::offset(w);
     if !words::instruction::is_by_pr(w) {
-        return segments::state::moved(ipr, by);
+        return state::moved(ipr, by);
     }
-    let mut p = segments::prs::pr(prs, words::instruction::prnum(w));
-    p.ring = segments::state::larger(ipr.ring, p.ring);
-    segments::state::moved(p, by)
+    let mut p = state::prs::pr(prs, words::instruction::prnum(w));
+    p.ring = state::larger(ipr.ring, p.ring);
+    state::moved(p, by)
 }

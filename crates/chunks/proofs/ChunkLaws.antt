@@ -2,61 +2,75 @@
 use mathlib.Core.Path.{_≡_, refl, sym, _∙_, ap, ap₂, subst}
 use mathlib.Core.Bool.{Bool, true, false, false≢true, true≢false}
 use mathlib.Core.List.{List, [], _∷_, _++_, append-nil, append-assoc, map-append}
-use Prim.Native.Nat.{ℕ, suc, _+_, _*_, _^_, _≤_, _<_}
+use Prim.Native.Nat.{ℕ, zero, suc, _+_, _*_, _/_, _^_, _≤_, _<_}
+use native.Mathlib.Nat.{add-assoc}
 use native.Mathlib.Numerals.{add-one}
 use native.Mathlib.Omega.{arith}
 use lib.ListN.{length, take, drop, getD, length-append, length-map}
 use lib.Seq.{take-at, drop-at, take-suc, length-take-le}
-use Rattle.model.specs.Words.{Pointer, pointer-in}
+use Rattle.model.specs.Words.{Pointer}
 use Rattle.model.specs.Registers.{Machine}
 use Rattle.model.specs.Answers.{Numbers, reply-numbers}
 use Rattle.model.specs.Questions.{start-questions}
-use Rattle.model.specs.Program.{faults, completes, halts}
-use Rattle.model.specs.Step.{step}
+use Rattle.model.specs.Program.{Outcome, faults, completes, halts}
+use Rattle.model.specs.Step.{step, pointer-words}
 use Rattle.model.specs.Run as Run
-use Rattle.model.specs.Run.{ran, run, run-from, trace-from, spent, halted, fault, refused}
+use Rattle.model.specs.Run.{ran, run, run-from, Traced, traced, trace-on, trace-from, total-of, total, spent, halted, fault, refused}
 use Rattle.model.specs.Listing.{step-line, step-lines, last-line}
-use Rattle.model.proofs.RunLaws.{along-run, run-goes, run-faults, run-halts, run-completes, trace-faults, trace-halts, trace-completes}
+use Rattle.model.proofs.RunLaws.{along-run, run-goes, run-faults, run-halts, run-completes, trace-faults, trace-halts, trace-completes, trace-goes}
+use Rattle.model.proofs.TickLaws.{pointer-words-within}
+use Rattle.model.proofs.CountedLaws.{total-within}
 use Rattle.model.proofs.ListingLaws.{step-lines-append}
 use Rattle.words.specs.View.{as-pointer, Pointer-within, Decoded-pointer}
 use Rattle.words.specs.declared.pointer.Pointer as Code
 use Rattle.run.specs.declared.Reply.{Reply}
 use Rattle.run.specs.declared.Reply.the-variants.{Refused, Spent, Halted, Fault}
-use Rattle.run.specs.Run.{as-reply, Reply-within, completed, noted-pointers}
-use Rattle.segments.specs.View.{as-machine}
-use Rattle.segments.specs.declared.state.Core.{Core}
-use Rattle.machine.specs.declared.Answered.{Answered}
-use Rattle.machine.specs.Answered.{Answered-as, reply-in, Replies}
-use Rattle.machine.proofs.AnswerLaws.{reply-of-numbers, count-completed}
+use Rattle.run.specs.Run.{as-reply, Reply-within, completed, step-in, noted-steps}
+use Rattle.state.specs.View.{as-machine}
+use Rattle.state.specs.declared.Core.{Core}
+use Rattle.answers.specs.declared.Answered.{Answered}
+use Rattle.answers.specs.Answer.{reply-in, Replies}
+use Rattle.machine.specs.Answered.{Answered-as}
+use Rattle.answers.proofs.AnswerLaws.{reply-of-numbers, count-completed}
 use Rattle.chunks.specs.declared.Chunk.{Chunk}
 use Rattle.text.specs.Text.{placed, Put}
-use Rattle.chunks.specs.Chunk.{text-from, ends-run, ending, Chunk-written, Chunk-listed}
+use Rattle.chunks.specs.Chunk.{text-from, Few, ends-run, ending, Chunk-written, Chunk-listed}
 use Rattle.text.proofs.TextLaws.{placed-none, length-placed, next-after, put-after}
 
 -- WHAT IS STILL TO COME, by how the next step ends
-pub text-spent : (c : ℕ) (m : Machine) → text-from 0 c m ≡ last-line (spent c)
-unfolding text-from trace-from run-from step-lines ran
-text-spent c m = refl
+none-more : (t : ℕ) → t + 0 ≡ t
+none-more t = omega arith
 
-text-faults : (b c n : ℕ) (t : Pointer) (m : Machine) → step m ≡ faults n t → text-from (suc b) c m ≡ last-line (fault n c t)
-unfolding text-from step-lines ran
-text-faults b c n t m e = rw (trace-faults b n t m e, run-faults b c n t m e) refl
+pub text-spent : (c t : ℕ) (m : Machine) → text-from 0 c t m ≡ last-line (spent c) t
+unfolding text-from trace-from run-from step-lines ran total-of
+text-spent c t m = ap (last-line (spent c)) (none-more t)
 
-text-halts : (b c : ℕ) (m k : Machine) → step m ≡ halts k → text-from (suc b) c m ≡ step-line (suc c) (k .registers .ipr) ++ last-line (halted (suc c))
-unfolding text-from step-lines ran
-text-halts b c m k e =
-    rw (trace-halts b m k e, run-halts b c m k e) (ap (λ t. t ++ last-line (halted (suc c))) (append-nil (step-line (suc c) (k .registers .ipr))))
+text-faults : (b c s n : ℕ) (t : Pointer) (m : Machine) → step m ≡ faults n t → text-from (suc b) c s m ≡ last-line (fault n c t) s
+unfolding text-from step-lines ran total-of
+text-faults b c s n t m e = rw (trace-faults b n t m e, run-faults b c n t m e) (ap (last-line (fault n c t)) (none-more s))
 
-text-completes : (b c : ℕ) (m k : Machine) → step m ≡ completes k → text-from (suc b) c m ≡ step-line (suc c) (k .registers .ipr) ++ text-from b (suc c) k
-unfolding text-from step-lines
-text-completes b c m k e = rw (trace-completes b m k e, run-completes b c m k e) (append-assoc (step-line (suc c) (k .registers .ipr)) _ _)
+text-halts : (b c s : ℕ) (m k : Machine) → step m ≡ halts k →
+    text-from (suc b) c s m ≡ step-line (suc c) (traced k (pointer-words m)) ++ last-line (halted (suc c)) (s + pointer-words m)
+unfolding text-from step-lines ran total-of traced
+text-halts b c s m k e =
+    rw (trace-halts b m k e, run-halts b c m k e)
+    (ap₂ (λ t n. t ++ last-line (halted (suc c)) (s + n)) (append-nil (step-line (suc c) (traced k (pointer-words m)))) (none-more (pointer-words m)))
+
+text-completes : (b c s : ℕ) (m k : Machine) → step m ≡ completes k →
+    text-from (suc b) c s m ≡ step-line (suc c) (traced k (pointer-words m)) ++ text-from b (suc c) (s + pointer-words m) k
+unfolding text-from step-lines total-of traced
+text-completes b c s m k e =
+    rw (trace-completes b m k e, run-completes b c m k e)
+    (append-assoc (step-line (suc c) (traced k (pointer-words m))) _ _
+    ∙ ap (λ n. step-line (suc c) (traced k (pointer-words m)) ++ (step-lines (suc c) (trace-from b k) ++ last-line (run-from b (suc c) k .reply) n))
+    (sym (add-assoc s (pointer-words m) (total-of (trace-from b k)))))
 
 -- A RUN OF b STEPS, counted from d on: what comes after its steps' lines where c steps were complete before, how far it counts, and that it isn't refused
-after-chunk : (left c total : ℕ) → Run.Reply → Machine → List ℕ
-after-chunk left c e (refused n) k = []
-after-chunk left c e (spent n) k = text-from left (c + e) k
-after-chunk left c e (halted n) k = last-line (halted (c + n))
-after-chunk left c e (fault n d t) k = last-line (fault n (c + d) t)
+after-chunk : (left c done total : ℕ) → Run.Reply → Machine → List ℕ
+after-chunk left c e s (refused n) k = []
+after-chunk left c e s (spent n) k = text-from left (c + e) s k
+after-chunk left c e s (halted n) k = last-line (halted (c + n)) s
+after-chunk left c e s (fault n d t) k = last-line (fault n (c + d) t) s
 
 count-of : Run.Reply → ℕ
 count-of (refused n) = 0
@@ -71,47 +85,52 @@ goes-ahead (halted n) = true
 goes-ahead (fault n d t) = true
 
 record Chunk-run (b d : ℕ) (m : Machine) (x : Run.Ran) : Type 0 where
-  text : (c left : ℕ) → text-from (b + left) (c + d) m ≡ step-lines (c + d) (trace-from b m) ++ after-chunk left c (d + b) (x .reply) (x .machine)
+  text : (c s left : ℕ) → text-from (b + left) (c + d) s m ≡ step-lines (c + d) (trace-from b m) ++ after-chunk left c (d + b) (s + total-of (trace-from b m)) (x .reply) (x .machine)
   count : count-of (x .reply) ≤ d + b
   goes : goes-ahead (x .reply) ≡ true
 
 chunk-run : (b d : ℕ) (m : Machine) → Chunk-run b d m (run-from b d m)
-unfolding after-chunk count-of goes-ahead ran step-lines trace-from
+unfolding after-chunk count-of goes-ahead ran step-lines trace-from total-of traced
 chunk-run =
     along-run Chunk-run
     (λ d m.
     record {
-      text = λ c left. ap₂ (λ n e. text-from n e m) (let q : 0 + left ≡ left = omega arith in q) (let q : c + d ≡ c + (d + 0) = omega arith in q);
+      text = λ c s left.
+          ap₂ (λ n e. text-from n e s m) (let q : 0 + left ≡ left = omega arith in q) (let q : c + d ≡ c + (d + 0) = omega arith in q)
+          ∙ ap (λ n. text-from left (c + (d + 0)) n m) (sym (none-more s));
       count = omega arith;
       goes = refl;
     })
     (λ b d n t m e.
     record {
-      text = λ c left.
-          ap (λ n. text-from n (c + d) m) (more b left) ∙ text-faults (b + left) (c + d) n t m e
-          ∙ ap (λ ps. step-lines (c + d) ps ++ last-line (fault n (c + d) t)) (sym (trace-faults b n t m e));
+      text = λ c s left.
+          ap (λ n. text-from n (c + d) s m) (more b left) ∙ text-faults (b + left) (c + d) s n t m e ∙ ap (last-line (fault n (c + d) t)) (sym (none-more s))
+          ∙ ap (λ ps. step-lines (c + d) ps ++ last-line (fault n (c + d) t) (s + total-of ps)) (sym (trace-faults b n t m e));
       count = omega arith;
       goes = refl;
     })
     (λ b d m k e.
     record {
-      text = λ c left.
-          ap (λ n. text-from n (c + d) m) (more b left) ∙ text-halts (b + left) (c + d) m k e
-          ∙ ap₂ (λ l n. l ++ last-line (halted n)) (sym (append-nil (step-line (suc (c + d)) (k .registers .ipr)))) (let q : suc (c + d) ≡ c + suc d = omega arith in q)
-          ∙ ap (λ ps. step-lines (c + d) ps ++ last-line (halted (c + suc d))) (sym (trace-halts b m k e));
+      text = λ c s left.
+          ap (λ n. text-from n (c + d) s m) (more b left) ∙ text-halts (b + left) (c + d) s m k e
+          ∙ ap₂ (λ l n. l ++ last-line (halted n) (s + pointer-words m)) (sym (append-nil (step-line (suc (c + d)) (traced k (pointer-words m))))) (let q : suc (c + d) ≡ c + suc d = omega arith in q)
+          ∙ ap (λ n. (step-line (suc (c + d)) (traced k (pointer-words m)) ++ []) ++ last-line (halted (c + suc d)) (s + n)) (sym (none-more (pointer-words m)))
+          ∙ ap (λ ps. step-lines (c + d) ps ++ last-line (halted (c + suc d)) (s + total-of ps)) (sym (trace-halts b m k e));
       count = omega arith;
       goes = refl;
     })
     (λ b d m k e h.
     record {
-      text = λ c left.
-          ap (λ n. text-from n (c + d) m) (more b left) ∙ text-completes (b + left) (c + d) m k e
-          ∙ ap (λ n. step-line (suc (c + d)) (k .registers .ipr) ++ text-from (b + left) n k) (let q : suc (c + d) ≡ c + suc d = omega arith in q)
-          ∙ ap (λ l. step-line (suc (c + d)) (k .registers .ipr) ++ l) (h .text c left)
-          ∙ ap₂ (λ n z. step-line (suc (c + d)) (k .registers .ipr) ++ (step-lines n (trace-from b k) ++ after-chunk left c z (run-from b (suc d) k .reply) (run-from b (suc d) k .machine)))
+      text = λ c s left.
+          ap (λ n. text-from n (c + d) s m) (more b left) ∙ text-completes (b + left) (c + d) s m k e
+          ∙ ap (λ n. step-line (suc (c + d)) (traced k (pointer-words m)) ++ text-from (b + left) n (s + pointer-words m) k) (let q : suc (c + d) ≡ c + suc d = omega arith in q)
+          ∙ ap (λ l. step-line (suc (c + d)) (traced k (pointer-words m)) ++ l) (h .text c (s + pointer-words m) left)
+          ∙ ap₂ (λ n z. step-line (suc (c + d)) (traced k (pointer-words m)) ++ (step-lines n (trace-from b k) ++ after-chunk left c z (s + pointer-words m + total-of (trace-from b k)) (run-from b (suc d) k .reply) (run-from b (suc d) k .machine)))
           (let q : c + suc d ≡ suc (c + d) = omega arith in q) (let q : suc d + b ≡ d + suc b = omega arith in q)
-          ∙ sym (append-assoc (step-line (suc (c + d)) (k .registers .ipr)) _ _)
-          ∙ ap (λ ps. step-lines (c + d) ps ++ after-chunk left c (d + suc b) (run-from b (suc d) k .reply) (run-from b (suc d) k .machine)) (sym (trace-completes b m k e));
+          ∙ sym (append-assoc (step-line (suc (c + d)) (traced k (pointer-words m))) _ _)
+          ∙ ap (λ n. (step-line (suc (c + d)) (traced k (pointer-words m)) ++ step-lines (suc (c + d)) (trace-from b k)) ++ after-chunk left c (d + suc b) n (run-from b (suc d) k .reply) (run-from b (suc d) k .machine))
+          (add-assoc s (pointer-words m) (total-of (trace-from b k)))
+          ∙ ap (λ ps. step-lines (c + d) ps ++ after-chunk left c (d + suc b) (s + total-of ps) (run-from b (suc d) k .reply) (run-from b (suc d) k .machine)) (sym (trace-completes b m k e));
       count = let z = h .count in omega arith;
       goes = h .goes;
     })
@@ -124,11 +143,11 @@ module _ (b : ℕ) (m k : Machine) (y : Reply) (e : run-from b 0 m ≡ ran (as-r
   chunk-as : Chunk-run b 0 m (ran (as-reply y) k)
   chunk-as = subst (Chunk-run b 0 m) e (chunk-run b 0 m)
 
-  chunk-text : (c left : ℕ) → text-from (b + left) c m ≡ step-lines c (trace-from b m) ++ after-chunk left c b (as-reply y) k
+  chunk-text : (c s left : ℕ) → text-from (b + left) c s m ≡ step-lines c (trace-from b m) ++ after-chunk left c b (s + total-of (trace-from b m)) (as-reply y) k
   unfolding ran
-  chunk-text c left =
-      ap (λ n. text-from (b + left) n m) (let q : c ≡ c + 0 = omega arith in q) ∙ chunk-as .text c left
-      ∙ ap₂ (λ n z. step-lines n (trace-from b m) ++ after-chunk left c z (as-reply y) k) (let q : c + 0 ≡ c = omega arith in q) (let q : 0 + b ≡ b = omega arith in q)
+  chunk-text c s left =
+      ap (λ n. text-from (b + left) n s m) (let q : c ≡ c + 0 = omega arith in q) ∙ chunk-as .text c s left
+      ∙ ap₂ (λ n z. step-lines n (trace-from b m) ++ after-chunk left c z (s + total-of (trace-from b m)) (as-reply y) k) (let q : c + 0 ≡ c = omega arith in q) (let q : 0 + b ≡ b = omega arith in q)
 
   by-reply : (x : Reply) → Chunk-run b 0 m (ran (as-reply x) k) → completed x ≤ b
   unfolding ran count-of
@@ -140,22 +159,22 @@ module _ (b : ℕ) (m k : Machine) (y : Reply) (e : run-from b 0 m ≡ ran (as-r
   completed-within : completed y ≤ b
   completed-within = by-reply y chunk-as
 
-  module _ (c left : ℕ) where
-    text-goes-on : ends-run y ≡ false → step-lines c (trace-from b m) ++ text-from left (c + b) k ≡ text-from (b + left) c m
+  module _ (c s left r : ℕ) (sum : r ≡ s + total-of (trace-from b m)) where
+    text-goes-on : ends-run y ≡ false → step-lines c (trace-from b m) ++ text-from left (c + b) r k ≡ text-from (b + left) c s m
     unfolding after-chunk
-    text-goes-on f = sym (chunk-text c left ∙ ap (λ l. step-lines c (trace-from b m) ++ l) (here y f))
+    text-goes-on f = sym (chunk-text c s left ∙ ap (λ l. step-lines c (trace-from b m) ++ l) (ap (λ n. after-chunk left c b n (as-reply y) k) (sym sum) ∙ here y f))
       where
-        here : (x : Reply) → ends-run x ≡ false → after-chunk left c b (as-reply x) k ≡ text-from left (c + b) k
+        here : (x : Reply) → ends-run x ≡ false → after-chunk left c b r (as-reply x) k ≡ text-from left (c + b) r k
         here (Refused n) g = absurd (true≢false g)
         here (Spent n) g = refl
         here (Halted n) g = absurd (true≢false g)
         here (Fault n d t) g = absurd (true≢false g)
 
-    text-ends : ends-run y ≡ true → step-lines c (trace-from b m) ++ ending c y ≡ text-from (b + left) c m
+    text-ends : ends-run y ≡ true → step-lines c (trace-from b m) ++ ending c r y ≡ text-from (b + left) c s m
     unfolding after-chunk goes-ahead ran
-    text-ends f = sym (chunk-text c left ∙ ap (λ l. step-lines c (trace-from b m) ++ l) (here y (chunk-as .goes) f))
+    text-ends f = sym (chunk-text c s left ∙ ap (λ l. step-lines c (trace-from b m) ++ l) (ap (λ n. after-chunk left c b n (as-reply y) k) (sym sum) ∙ here y (chunk-as .goes) f))
       where
-        here : (x : Reply) → goes-ahead (as-reply x) ≡ true → ends-run x ≡ true → after-chunk left c b (as-reply x) k ≡ ending c x
+        here : (x : Reply) → goes-ahead (as-reply x) ≡ true → ends-run x ≡ true → after-chunk left c b r (as-reply x) k ≡ ending c r x
         here (Refused n) q g = absurd (false≢true q)
         here (Spent n) q g = absurd (false≢true g)
         here (Halted n) q g = refl
@@ -179,66 +198,88 @@ module _ (a r : ℕ) (w t u : List ℕ) (p : u ≡ placed a w t) (q : r ≡ a + 
   pub put-length : length u ≡ length t
   put-length = ap length p ∙ length-placed a w t (omega arith)
 
+-- NO STEP READ MORE THAN 64, nor do the words of its trace say so
+few-traced : (b : ℕ) (m : Machine) → Few (trace-from b m)
+unfolding Few trace-from trace-on traced
+few-traced zero m = tt
+few-traced (suc b) m = on (step m) (λ k. few-traced b k)
+  where
+    on : (x : Outcome) → ((k : Machine) → Few (trace-from b k)) → Few (trace-on (pointer-words m) x (λ k. trace-from b k))
+    on (faults n t) f = tt
+    on (halts k) f = (pointer-words-within m, tt)
+    on (completes k) f = (pointer-words-within m, f k)
+
+pub few-at : (l : List ℕ) (n i : ℕ) → Few (noted-steps (take n l)) → i < n → n ≤ length l → getD l i 0 / 4294967296 ≤ 64
+unfolding Few step-in
+few-at l zero i f h k = absurd (omega arith)
+few-at [] (suc n) i f h k = absurd (omega arith)
+few-at (w ∷ l) (suc n) zero f h k = f .0
+few-at (w ∷ l) (suc n) (suc i) f h k = few-at l n i (f .1) (omega arith) (omega arith)
+
 -- THE STEPS' LINES, one after another from their trace
 module _ (w v a : ℕ) (p : Code.Pointer) (e : Decoded-pointer w p) where
-  pub step-put : (t u : List ℕ) → u ≡ placed a (step-line v (as-pointer p)) t → u ≡ placed a (step-line v (pointer-in w)) t
-  step-put t u h = h ∙ ap (λ q. placed a (step-line v q) t) (e .same)
+  step-same : record { ipr = as-pointer p; pointers = w / 4294967296 } ≡ step-in w
+  unfolding step-in
+  step-same = ap (λ q. record { ipr = q; pointers = w / 4294967296 }) (e .same)
 
-  pub next-after-step : (r : ℕ) → r ≡ a + length (step-line v (as-pointer p)) → r ≡ a + length (step-line v (pointer-in w))
-  next-after-step r h = h ∙ ap (λ q. a + length (step-line v q)) (e .same)
+  pub step-put : (t u : List ℕ) → u ≡ placed a (step-line v (record { ipr = as-pointer p; pointers = w / 4294967296 })) t → u ≡ placed a (step-line v (step-in w)) t
+  step-put t u h = h ∙ ap (λ q. placed a (step-line v q) t) step-same
+
+  pub next-after-step : (r : ℕ) → r ≡ a + length (step-line v (record { ipr = as-pointer p; pointers = w / 4294967296 })) → r ≡ a + length (step-line v (step-in w))
+  next-after-step r h = h ∙ ap (λ q. a + length (step-line v q)) step-same
 
 pub ruleset line-of-a-step = (step-put, next-after-step)
 
 lines-next : (c i v : ℕ) (l : List ℕ) → i < length l → v ≡ c + i + 1 →
-    step-lines c (noted-pointers (take i l)) ++ step-line v (pointer-in (getD l i 0)) ≡ step-lines c (noted-pointers (take (i + 1) l))
+    step-lines c (noted-steps (take i l)) ++ step-line v (step-in (getD l i 0)) ≡ step-lines c (noted-steps (take (i + 1) l))
 unfolding step-lines
 lines-next c i v l h e =
-    let p : Pointer = pointer-in (getD l i 0) in
-    let n : length (noted-pointers (take i l)) ≡ i = length-map (take i l) pointer-in ∙ length-take-le i l (omega arith) in
+    let p : Traced = step-in (getD l i 0) in
+    let n : length (noted-steps (take i l)) ≡ i = length-map (take i l) step-in ∙ length-take-le i l (omega arith) in
     sym
-    (ap (λ k. step-lines c (noted-pointers (take k l))) (add-one i) ∙ ap (λ xs. step-lines c (noted-pointers xs)) (take-suc l i 0 h)
-    ∙ ap (step-lines c) (map-append pointer-in (take i l) (getD l i 0 ∷ []))
-    ∙ step-lines-append c (noted-pointers (take i l)) (p ∷ [])
-    ∙ ap (λ t. step-lines c (noted-pointers (take i l)) ++ t) (append-nil (step-line (suc (c + length (noted-pointers (take i l)))) p))
-    ∙ ap (λ k. step-lines c (noted-pointers (take i l)) ++ step-line k p) (omega arith))
+    (ap (λ k. step-lines c (noted-steps (take k l))) (add-one i) ∙ ap (λ xs. step-lines c (noted-steps xs)) (take-suc l i 0 h)
+    ∙ ap (step-lines c) (map-append step-in (take i l) (getD l i 0 ∷ []))
+    ∙ step-lines-append c (noted-steps (take i l)) (p ∷ [])
+    ∙ ap (λ t. step-lines c (noted-steps (take i l)) ++ t) (append-nil (step-line (suc (c + length (noted-steps (take i l)))) p))
+    ∙ ap (λ k. step-lines c (noted-steps (take i l)) ++ step-line k p) (omega arith))
 
 module _ (a c : ℕ) (l : List ℕ) where
-  pub no-line-put : (t : List ℕ) → t ≡ placed a (step-lines c (noted-pointers (take 0 l))) t
+  pub no-line-put : (t : List ℕ) → t ≡ placed a (step-lines c (noted-steps (take 0 l))) t
   unfolding step-lines
   no-line-put t = sym (placed-none a t)
 
-  pub no-line-long : a ≡ a + length (step-lines c (noted-pointers (take 0 l)))
+  pub no-line-long : a ≡ a + length (step-lines c (noted-steps (take 0 l)))
   unfolding step-lines
   no-line-long = omega arith
 
-  module _ (i r : ℕ) (q : r ≡ a + length (step-lines c (noted-pointers (take i l)))) where
-    module _ (n : ℕ) (h : i < n) (k : n ≤ length l) (d v s : ℕ) (before : d ≡ c + i) (now : v ≡ d + 1) (g : s ≡ r + length (step-line v (pointer-in (getD l i 0)))) where
-      with-line : step-lines c (noted-pointers (take i l)) ++ step-line v (pointer-in (getD l i 0)) ≡ step-lines c (noted-pointers (take (i + 1) l))
+  module _ (i r : ℕ) (q : r ≡ a + length (step-lines c (noted-steps (take i l)))) where
+    module _ (n : ℕ) (h : i < n) (k : n ≤ length l) (d v s : ℕ) (before : d ≡ c + i) (now : v ≡ d + 1) (g : s ≡ r + length (step-line v (step-in (getD l i 0)))) where
+      with-line : step-lines c (noted-steps (take i l)) ++ step-line v (step-in (getD l i 0)) ≡ step-lines c (noted-steps (take (i + 1) l))
       with-line = lines-next c i v l (omega arith) (omega arith)
 
-      pub line-long : s ≡ a + length (step-lines c (noted-pointers (take (i + 1) l)))
+      pub line-long : s ≡ a + length (step-lines c (noted-steps (take (i + 1) l)))
       line-long =
-          next-after a r s (step-lines c (noted-pointers (take i l))) (step-line v (pointer-in (getD l i 0))) q g
+          next-after a r s (step-lines c (noted-steps (take i l))) (step-line v (step-in (getD l i 0))) q g
           ∙ ap (λ z. a + length z) with-line
 
-      pub line-put : (t u w : List ℕ) → u ≡ placed a (step-lines c (noted-pointers (take i l))) t → w ≡ placed r (step-line v (pointer-in (getD l i 0))) u →
+      pub line-put : (t u w : List ℕ) → u ≡ placed a (step-lines c (noted-steps (take i l))) t → w ≡ placed r (step-line v (step-in (getD l i 0))) u →
           r ≤ a + 64 * i → s ≤ r + 64 → a + 64 * n ≤ length t →
-          w ≡ placed a (step-lines c (noted-pointers (take (i + 1) l))) t
+          w ≡ placed a (step-lines c (noted-steps (take (i + 1) l))) t
       line-put t u w f o x y room =
-          put-after a r s (step-lines c (noted-pointers (take i l))) (step-line v (pointer-in (getD l i 0))) t u w f q o g (omega arith)
+          put-after a r s (step-lines c (noted-steps (take i l))) (step-line v (step-in (getD l i 0))) t u w f q o g (omega arith)
           ∙ ap (λ z. placed a z t) with-line
 
-    pub every-line-long : (n : ℕ) → i ≤ n → n ≤ i → r ≡ a + length (step-lines c (noted-pointers (take n l)))
-    every-line-long n h k = q ∙ ap (λ z. a + length (step-lines c (noted-pointers (take z l)))) (let y : i ≡ n = omega arith in y)
+    pub every-line-long : (n : ℕ) → i ≤ n → n ≤ i → r ≡ a + length (step-lines c (noted-steps (take n l)))
+    every-line-long n h k = q ∙ ap (λ z. a + length (step-lines c (noted-steps (take z l)))) (let y : i ≡ n = omega arith in y)
 
-  pub every-line-put : (i n : ℕ) (t u : List ℕ) → u ≡ placed a (step-lines c (noted-pointers (take i l))) t → i ≤ n → n ≤ i →
-      u ≡ placed a (step-lines c (noted-pointers (take n l))) t
-  every-line-put i n t u f h k = f ∙ ap (λ z. placed a (step-lines c (noted-pointers (take z l))) t) (let y : i ≡ n = omega arith in y)
+  pub every-line-put : (i n : ℕ) (t u : List ℕ) → u ≡ placed a (step-lines c (noted-steps (take i l))) t → i ≤ n → n ≤ i →
+      u ≡ placed a (step-lines c (noted-steps (take n l))) t
+  every-line-put i n t u f h k = f ∙ ap (λ z. placed a (step-lines c (noted-steps (take z l))) t) (let y : i ≡ n = omega arith in y)
 
-pub ruleset lines-of-steps = (no-line-put, no-line-long, every-line-long, every-line-put)
+pub ruleset lines-of-steps = (few-at, no-line-put, no-line-long, every-line-long, every-line-put)
 
 -- A CHUNK'S RUN AND ITS LINES: 1 to 4 pass, so it is the definition's run; as many lines as the reply counts, and their trace is the definition's
-module _ (b : ℕ) (core : Core) (prs memory l₀ : List ℕ) (x : Answered) (prs-now memory-now l : List ℕ) (w : Answered-as b core prs memory l₀ x prs-now memory-now l)
+module _ (b : ℕ) (core : Core) (prs memory l₀ : List ℕ) (x : Answered) (prs-now memory-now l : List ℕ) (w : Answered-as false b core prs memory l₀ x prs-now memory-now l)
     (passes : start-questions (as-machine core prs memory) ≡ 0) (y : Reply) (r : Replies x y) where
   reply-same : as-reply y ≡ run b (as-machine core prs memory) .reply
   reply-same = r .same ∙ ap reply-in (w .numbers-same) ∙ reply-of-numbers _
@@ -264,11 +305,28 @@ module _ (b : ℕ) (core : Core) (prs memory l₀ : List ℕ) (x : Answered) (pr
     pub steps-fit : (c : ℕ) → c + b < 2 ^ 32 → c + n < 2 ^ 32
     steps-fit c h = let g = within-budget in omega arith
 
-    module _ (h : b ≤ length l₀) (c a : ℕ) (t u : List ℕ) (z : ℕ) (p : Put (64 * n) a (step-lines c (noted-pointers (take n l))) t u z) where
-      same-lines : step-lines c (noted-pointers (take n l)) ≡ step-lines c (trace-from b (as-machine core prs memory))
-      same-lines = ap (step-lines c) (ap (λ i. noted-pointers (take i l)) (f ∙ count-same) ∙ w .traced passes h)
+    same-steps : b ≤ length l₀ → noted-steps (take n l) ≡ trace-from b (as-machine core prs memory)
+    same-steps h = ap (λ i. noted-steps (take i l)) (f ∙ count-same) ∙ w .traced passes h
 
-      pub chunk-written : Chunk-written (as-machine core prs memory) c b a t (record { ran = record { reply = y; core = x .core }; length = z })
+    pub steps-few : b ≤ length l₀ → Few (noted-steps (take n l))
+    steps-few h = subst Few (sym (same-steps h)) (few-traced b (as-machine core prs memory))
+
+    module _ (h : b ≤ length l₀) (c a : ℕ) (t u : List ℕ) (z : ℕ) (p : Put (64 * n) a (step-lines c (noted-steps (take n l))) t u z) where
+      same-lines : step-lines c (noted-steps (take n l)) ≡ step-lines c (trace-from b (as-machine core prs memory))
+      same-lines = ap (step-lines c) (same-steps h)
+
+      total-same : x .pointers ≡ total-of (trace-from b (as-machine core prs memory))
+      unfolding total
+      total-same = w .pointers-same ∙ ap total-of (trace-goes b (as-machine core prs memory) passes)
+
+      few-words : x .pointers ≤ 64 * b
+      few-words =
+          let g = within-budget in
+          let q = total-within b (as-machine core prs memory) in
+          let z : reply-numbers (run b (as-machine core prs memory) .reply) .count ≡ x .count = sym (ap (λ (n : Numbers). n .count) (w .numbers-same)) in
+          omega (arith, q, w .pointers-same, z, count-same, g)
+
+      pub chunk-written : Chunk-written (as-machine core prs memory) c b a t (record { ran = record { reply = y; core = x .core; total = x .pointers; last = 0 }; length = z })
           (as-machine (x .core) prs-now memory-now) u
       chunk-written =
           record {
@@ -279,10 +337,12 @@ module _ (b : ℕ) (core : Core) (prs memory l₀ : List ℕ) (x : Answered) (pr
               p .1 ∙ ap (λ q. a + length q) same-lines,
               let g = within-budget in let q = p .2 in omega arith,
             );
+            total-same = total-same;
+            total-within = few-words;
           }
 
 -- THE ENDING, by the reply that is at hand
-module _ (y : Reply) (c : ℕ) where
+module _ (y : Reply) (c s : ℕ) where
   pub halt-fits : (d : ℕ) → y ≡ Halted d → c + completed y < 2 ^ 32 → c + d < 2 ^ 32
   halt-fits d f h = let q : completed y ≡ d = ap completed f in omega arith
 
@@ -297,23 +357,23 @@ module _ (y : Reply) (c : ℕ) where
     pub ending-known : (b : Bool) → b ≡ ends-run z → b ≡ ends-run y
     ending-known b g = g ∙ ap ends-run (sym f)
 
-    pub ending-put : (a : ℕ) (t u : List ℕ) → u ≡ placed a (ending c z) t → u ≡ placed a (ending c y) t
-    ending-put a t u g = g ∙ ap (λ (x : Reply). placed a (ending c x) t) (sym f)
+    pub ending-put : (a : ℕ) (t u : List ℕ) → u ≡ placed a (ending c s z) t → u ≡ placed a (ending c s y) t
+    ending-put a t u g = g ∙ ap (λ (x : Reply). placed a (ending c s x) t) (sym f)
 
-    pub ending-long : (a r : ℕ) → r ≡ a + length (ending c z) → r ≡ a + length (ending c y)
-    ending-long a r g = g ∙ ap (λ (x : Reply). a + length (ending c x)) (sym f)
+    pub ending-long : (a r : ℕ) → r ≡ a + length (ending c s z) → r ≡ a + length (ending c s y)
+    ending-long a r g = g ∙ ap (λ (x : Reply). a + length (ending c s x)) (sym f)
 
   module _ (d : ℕ) (f : y ≡ Spent d) (a : ℕ) where
-    pub no-ending-put : (t : List ℕ) → t ≡ placed a (ending c y) t
-    no-ending-put t = sym (placed-none a t) ∙ ap (λ (x : Reply). placed a (ending c x) t) (sym f)
+    pub no-ending-put : (t : List ℕ) → t ≡ placed a (ending c s y) t
+    no-ending-put t = sym (placed-none a t) ∙ ap (λ (x : Reply). placed a (ending c s x) t) (sym f)
 
-    pub no-ending-long : a ≡ a + length (ending c y)
-    no-ending-long = let q : length (ending c y) ≡ 0 = ap (λ (x : Reply). length (ending c x)) f in omega arith
+    pub no-ending-long : a ≡ a + length (ending c s y)
+    no-ending-long = let q : length (ending c s y) ≡ 0 = ap (λ (x : Reply). length (ending c s x)) f in omega arith
 
 pub ruleset endings = (halt-fits, fault-fits, fault-within, ending-known, ending-put, ending-long, no-ending-put, no-ending-long)
 
 -- THE CHUNK WHOLE
-module _ (m : Machine) (c b a : ℕ) (t : List ℕ) (x : Chunk) (k : Machine) (u : List ℕ) (w : Chunk-written m c b a t x k u)
+module _ (m : Machine) (c s b a : ℕ) (t : List ℕ) (x : Chunk) (k : Machine) (u : List ℕ) (w : Chunk-written m c b a t x k u)
     (room : a + 64 * b + 64 ≤ length t) where
   pub ending-has-room : x .length + 64 ≤ length u
   ending-has-room = let g = w .put in let q : length u ≡ length t = put-length a (x .length) _ t u (g .0) (g .1) (omega arith) in omega arith
@@ -321,48 +381,55 @@ module _ (m : Machine) (c b a : ℕ) (t : List ℕ) (x : Chunk) (k : Machine) (u
   pub ending-fits : c + b < 2 ^ 32 → c + completed (x .ran .reply) < 2 ^ 32
   ending-fits h = let g = w .counted in omega arith
 
-  module _ (last : Bool) (f : last ≡ ends-run (x .ran .reply)) (v : List ℕ) (p : v ≡ placed (x .length) (ending c (x .ran .reply)) u) (r : ℕ)
-      (q : r ≡ x .length + length (ending c (x .ran .reply))) (h : r ≤ x .length + 64) where
+  pub sum-fits : s ≤ 64 * c → c + b < 2 ^ 32 → s + x .ran .total < 2 ^ 64
+  sum-fits h k = let g = w .total-within in omega arith
+
+  module _ (last : Bool) (f : last ≡ ends-run (x .ran .reply)) (v : List ℕ) (p : v ≡ placed (x .length) (ending c (s + x .ran .total) (x .ran .reply)) u) (r : ℕ)
+      (q : r ≡ x .length + length (ending c (s + x .ran .total) (x .ran .reply))) (h : r ≤ x .length + 64) where
     fits : r ≤ length t
     fits = let g = w .put in omega arith
 
     lines : List ℕ
-    lines = step-lines c (trace-from b m) ++ ending c (x .ran .reply)
+    lines = step-lines c (trace-from b m) ++ ending c (s + x .ran .total) (x .ran .reply)
 
     put-lines : v ≡ placed a lines t
     unfolding lines
-    put-lines = put-after a (x .length) r (step-lines c (trace-from b m)) (ending c (x .ran .reply)) t u v (w .put .0) (w .put .1) p q fits
+    put-lines = put-after a (x .length) r (step-lines c (trace-from b m)) (ending c (s + x .ran .total) (x .ran .reply)) t u v (w .put .0) (w .put .1) p q fits
 
     long-lines : r ≡ a + length lines
     unfolding lines
-    long-lines = next-after a (x .length) r (step-lines c (trace-from b m)) (ending c (x .ran .reply)) (w .put .1) q
+    long-lines = next-after a (x .length) r (step-lines c (trace-from b m)) (ending c (s + x .ran .total) (x .ran .reply)) (w .put .1) q
 
-    no-ending : (y : Reply) → ends-run y ≡ false → ending c y ≡ []
+    no-ending : (y : Reply) → ends-run y ≡ false → ending c (s + x .ran .total) y ≡ []
     no-ending (Refused n) g = absurd (true≢false g)
     no-ending (Spent n) g = refl
     no-ending (Halted n) g = absurd (true≢false g)
     no-ending (Fault n d z) g = absurd (true≢false g)
 
-    pub chunk-listed : Chunk-listed m c b a t (record { core = x .ran .core; length = r; «is_last» = last }) k v
+    sum : s + x .ran .total ≡ s + total-of (trace-from b m)
+    sum = ap (λ n. s + n) (w .total-same)
+
+    pub chunk-listed : Chunk-listed m c s b a t (record { core = x .ran .core; length = r; «is_last» = last; total = s + x .ran .total }) k v
     unfolding lines
     chunk-listed =
         record {
           goes-on = λ g left.
-              ap (λ z. take a t ++ z) (sym (text-goes-on b m _ (x .ran .reply) (w .ran-same .same) c left (sym f ∙ g)))
+              ap (λ z. take a t ++ z) (sym (text-goes-on b m _ (x .ran .reply) (w .ran-same .same) c s left _ sum (sym f ∙ g)))
               ∙ sym (append-assoc (take a t) _ _)
-              ∙ ap (λ z. z ++ text-from left (c + b) k)
+              ∙ ap (λ z. z ++ text-from left (c + b) (s + x .ran .total) k)
               (ap (λ z. take a t ++ z) (sym (append-nil (step-lines c (trace-from b m))) ∙ ap (λ z. step-lines c (trace-from b m) ++ z) (sym (no-ending (x .ran .reply) (sym f ∙ g))))
               ∙ sym (put-take a r lines t v put-lines long-lines fits));
           ends = λ g left.
-              ap (λ z. take a t ++ z) (sym (text-ends b m _ (x .ran .reply) (w .ran-same .same) c left (sym f ∙ g)))
+              ap (λ z. take a t ++ z) (sym (text-ends b m _ (x .ran .reply) (w .ran-same .same) c s left _ sum (sym f ∙ g)))
               ∙ sym (put-take a r lines t v put-lines long-lines fits);
           rest-same = put-drop a r lines t v put-lines long-lines fits;
           size-same = put-length a r lines t v put-lines long-lines fits;
           fits = fits;
           grows = omega (arith, long-lines);
           near = let g = w .put in omega arith;
-          short = λ g. let e : length (ending c (x .ran .reply)) ≡ 0 = ap length (no-ending (x .ran .reply) (sym f ∙ g)) in let y = w .put in omega arith;
+          short = λ g. let e : length (ending c (s + x .ran .total) (x .ran .reply)) ≡ 0 = ap length (no-ending (x .ran .reply) (sym f ∙ g)) in let y = w .put in omega arith;
+          total-within = λ h. let g = w .total-within in omega arith;
           passes = w .ran-same .passes;
         }
 
-pub ruleset chunks = (ending-has-room, ending-fits, chunk-listed)
+pub ruleset chunks = (ending-has-room, ending-fits, sum-fits, chunk-listed)

@@ -1,25 +1,25 @@
 // A chunk of a listing: some steps of a run and their lines, with the last line where the run ends with them.
 ghost use mathlib.Core.Path.{_≡_};
-ghost use Prim.Native.Nat.{_+_, _*_, _^_, _≤_, _<_};
+ghost use Prim.Native.Nat.{_+_, _*_, _/_, _^_, _≤_, _<_};
 ghost use lib.ListN.{length, take};
 ghost use Rattle.model.specs.Questions.{start-questions};
-ghost use Rattle.model.specs.Words.{pointer-in};
 ghost use Rattle.model.specs.Listing.{step-line, step-lines};
-ghost use Rattle.segments.specs.View.{as-machine};
-ghost use Rattle.run.specs.Run.{Reply-within, completed, noted-pointers};
+ghost use Rattle.state.specs.View.{as-machine};
+ghost use Rattle.run.specs.Run.{Reply-within, completed, step-in, noted-steps};
 ghost use Rattle.text.specs.Text.{Put};
 ghost use Rattle.lines.specs.Kept.{Kept};
-ghost use Rattle.chunks.specs.Chunk.{ends-run, ending, Chunk-written, Chunk-listed};
+ghost use Rattle.chunks.specs.Chunk.{Few, ends-run, ending, Chunk-written, Chunk-listed};
 use lines::Number;
 use run::Ran;
 use run::Reply;
-use segments::state::Core;
+use state::Core;
 
-// Where lines end, and whether the last of them ends the listing.
+// Where lines end, whether the last of them ends the listing, and the pointer words of the run so far.
 pub struct Line {
     pub core: Core,
     pub length: usize,
     pub is_last: bool,
+    pub total: u64,
 }
 
 // A chunk's run, and where its steps' lines end.
@@ -46,19 +46,19 @@ fn steps_of(reply: Reply) -> u32
     }
 }
 
-// The line of a step, from the word of the trace that holds IPR after it.
+// The line of a step, from the word of the trace that holds IPR after it and its pointer words.
 fn put_step(text: &mut [u8], at: usize, tens: &[u8; 10], number: Number, word: u64) -> usize
-    requires { ⌜ (at + 64 ≤ length (now text)) × Kept (now tens) number ⌝ }
-    ensures { λ r. ⌜ Put 64 at (step-line (number .value) (pointer-in word)) (now (text .entry)) (now (text .exit)) r ⌝ }
+    requires { ⌜ (at + 64 ≤ length (now text)) × Kept (now tens) number × (word / 4294967296 ≤ 64) ⌝ }
+    ensures { λ r. ⌜ Put 64 at (step-line (number .value) (step-in word)) (now (text .entry)) (now (text .exit)) r ⌝ }
 {
     let p = words::pointer::decode(word);
-    lines::put_step_line(text, at, tens, number, p)
+    lines::put_step_line(text, at, tens, number, p, word / 4294967296)
 }
 
 // The lines of so many steps, from their trace.
 fn put_steps(text: &mut [u8], at: usize, count: u32, trace: &[u64], steps: u32) -> usize
-    requires { ⌜ (at + 64 * steps ≤ length (now text)) × (steps ≤ length (now trace)) × (count + steps < 2 ^ 32) ⌝ }
-    ensures { λ r. ⌜ Put (64 * steps) at (step-lines count (noted-pointers (take steps (now (trace .entry))))) (now (text .entry)) (now (text .exit)) r ⌝ }
+    requires { ⌜ (at + 64 * steps ≤ length (now text)) × (steps ≤ length (now trace)) × (count + steps < 2 ^ 32) × Few (noted-steps (take steps (now trace))) ⌝ }
+    ensures { λ r. ⌜ Put (64 * steps) at (step-lines count (noted-steps (take steps (now (trace .entry))))) (now (text .entry)) (now (text .exit)) r ⌝ }
 {
     let mut tens: [u8; 10] = [48; 10];
     let mut number = lines::number_of(&mut tens, count);
@@ -97,24 +97,30 @@ fn put_chunk(
         memory,
         steps,
         &mut trace,
+        false,
     );
-    let reply = machine::reply_of(y);
+    let reply = answers::reply_of(y);
     let after = y.core;
     let length = put_steps(text, at, count, &trace, steps_of(reply));
     Chunk {
-        ran: Ran { reply, core: after },
+        ran: Ran {
+            reply,
+            core: after,
+            total: y.pointers,
+            last: 0,
+        },
         length,
     }
 }
 
-// The last line, where a chunk's reply ends the run.
-fn put_ending(text: &mut [u8], at: usize, count: u32, reply: Reply) -> Ending
+// The last line, where a chunk's reply ends the run, with the total of the whole run.
+fn put_ending(text: &mut [u8], at: usize, count: u32, total: u64, reply: Reply) -> Ending
     requires { ⌜ (at + 64 ≤ length (now text)) × Reply-within reply × (count + completed reply < 2 ^ 32) ⌝ }
-    ensures { λ x. ⌜ (x .«is_last» ≡ ends-run reply) × Put 64 at (ending count reply) (now (text .entry)) (now (text .exit)) (x .length) ⌝ }
+    ensures { λ x. ⌜ (x .«is_last» ≡ ends-run reply) × Put 64 at (ending count total reply) (now (text .entry)) (now (text .exit)) (x .length) ⌝ }
 {
     match reply {
         Reply::Refused(n) => Ending {
-            length: lines::put_last_line(text, at, Reply::Refused(n)),
+            length: endings::put_last_line(text, at, Reply::Refused(n), total),
             is_last: true,
         },
         Reply::Spent(_steps) => Ending {
@@ -122,11 +128,11 @@ fn put_ending(text: &mut [u8], at: usize, count: u32, reply: Reply) -> Ending
             is_last: false,
         },
         Reply::Halted(steps) => Ending {
-            length: lines::put_last_line(text, at, Reply::Halted(count + steps)),
+            length: endings::put_last_line(text, at, Reply::Halted(count + steps), total),
             is_last: true,
         },
         Reply::Fault(n, steps, t) => Ending {
-            length: lines::put_last_line(text, at, Reply::Fault(n, count + steps, t)),
+            length: endings::put_last_line(text, at, Reply::Fault(n, count + steps, t), total),
             is_last: true,
         },
     }
@@ -138,21 +144,24 @@ pub fn list_chunk(
     prs: &mut [u16; 24],
     memory: &mut [u64],
     count: u32,
+    total: u64,
     steps: u32,
     text: &mut [u8],
     at: usize,
 ) -> Line
-    requires { ⌜ (start-questions (as-machine core (now prs) (now memory)) ≡ 0) × (at + 64 * steps + 64 ≤ length (now text)) × (steps ≤ 256) × (count + steps < 2 ^ 32) ⌝ }
-    ensures { λ x. ⌜ Chunk-listed (as-machine core (now (prs .entry)) (now (memory .entry))) count steps at (now (text .entry)) x (as-machine (x .core) (now (prs .exit)) (now (memory .exit))) (now (text .exit)) ⌝ }
+    requires { ⌜ (start-questions (as-machine core (now prs) (now memory)) ≡ 0) × (at + 64 * steps + 64 ≤ length (now text)) × (steps ≤ 256) × (count + steps < 2 ^ 32) × (total ≤ 64 * count) ⌝ }
+    ensures { λ x. ⌜ Chunk-listed (as-machine core (now (prs .entry)) (now (memory .entry))) count total steps at (now (text .entry)) x (as-machine (x .core) (now (prs .exit)) (now (memory .exit))) (now (text .exit)) ⌝ }
 {
     let x = put_chunk(core, prs, memory, count, steps, text, at);
     let ran = x.ran;
     let reply = ran.reply;
-    let end = put_ending(text, x.length, count, reply);
+    let sum = total + ran.total;
+    let end = put_ending(text, x.length, count, sum, reply);
     let core = ran.core;
     Line {
         core,
         length: end.length,
         is_last: end.is_last,
+        total: sum,
     }
 }

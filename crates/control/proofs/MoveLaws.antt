@@ -19,13 +19,13 @@ use Rattle.words.specs.View.{as-pointer}
 use Rattle.words.specs.declared.descriptor.Descriptor.{Descriptor}
 use Rattle.words.specs.declared.pointer.Pointer as Code
 use Rattle.opcodes.specs.Table.{taken}
-use Rattle.segments.specs.Translation.{descriptor-answer, looked, Code-right}
-use Rattle.segments.specs.View.{as-dbr, registers-with, machine-with, Does, Does-with-any-prs, Completes, faulted-after}
-use Rattle.segments.specs.declared.state.Core.{Core}
-use Rattle.segments.specs.declared.state.After.{After}
+use Rattle.segments.specs.Translation.{as-dbr, descriptor-answer, looked, Code-right}
+use Rattle.state.specs.View.{registers-with, machine-with, Does, Does-with-any-prs, Completes, faulted-after}
+use Rattle.state.specs.declared.Core.{Core}
+use Rattle.state.specs.declared.After.{After}
 use Rattle.segments.specs.declared.translate.Translated.{Translated}
 use Rattle.segments.specs.declared.translate.Translated.the-variants.{Refused, Passed}
-use Rattle.segments.proofs.DoesLaws.{does-complete, does-as, does-advance, does-refused-look, look-goes-on}
+use Rattle.state.proofs.DoesLaws.{does-complete, does-as, does-advance, does-refused-look, look-goes-on}
 use Rattle.control.specs.Call.{Enters}
 
 -- A RIGHT DESCRIPTOR: what 25 or 26 to 30 say of it, with 13

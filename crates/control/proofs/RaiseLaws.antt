@@ -8,7 +8,7 @@ use native.Mathlib.Omega.{arith}
 use lib.ListN.{length, getD, set}
 use Rattle.model.specs.Words.{Pointer}
 use Rattle.model.specs.Registers.{zero-pointer, with-ring-at-least}
-use Rattle.segments.specs.View.{pointers-in, as-pointers, pr-of}
+use Rattle.state.specs.View.{pointers-in, as-pointers, pr-of}
 
 -- the first `count` raised, the rest as they were
 unfoldable pub raised-first : (ring count : ℕ) → List Pointer → List Pointer

@@ -4,10 +4,10 @@ use Rattle.model.specs.Registers as Registers
 use Rattle.words.specs.View.{as-pointer}
 use Rattle.words.specs.declared.descriptor.Descriptor.{Descriptor}
 use Rattle.words.specs.declared.pointer.Pointer.{Pointer}
-use Rattle.segments.specs.View.{Becomes}
-use Rattle.segments.specs.declared.state.Core.{Core}
-use Rattle.segments.specs.declared.state.After.{After}
-use Rattle.segments.specs.declared.state.End.the-variants.{Completed}
+use Rattle.state.specs.View.{Becomes}
+use Rattle.state.specs.declared.Core.{Core}
+use Rattle.state.specs.declared.After.{After}
+use Rattle.state.specs.declared.End.the-variants.{Completed}
 
 -- control goes on at a pointer, in the segment of that descriptor
 pub record Enters (c : Core) (p : Pointer) (d : Descriptor) (x : After) : Type 0 where

@@ -6,14 +6,14 @@ ghost use Rattle.model.specs.Registers as Registers;
 ghost use Rattle.model.specs.Step as Step;
 ghost use Rattle.words.specs.View.{as-pointer, Pointer-within};
 ghost use Rattle.opcodes.specs.Table.{taken};
-ghost use Rattle.segments.specs.View.{as-registers, as-pointers, Ready, Does, Does-with-any-prs};
+ghost use Rattle.state.specs.View.{as-registers, as-pointers, Ready, Does, Does-with-any-prs};
 ghost use Rattle.control.specs.Call.{Enters};
-use segments::questions::Use;
-use segments::state::After;
-use segments::state::Core;
-use segments::state::End;
+use questions::Use;
 use segments::translate::Dbr;
 use segments::translate::Translated;
+use state::After;
+use state::Core;
+use state::End;
 use words::descriptor::Descriptor;
 use words::pointer::Pointer;
 use words::pointer::SegmentNumber;
@@ -24,7 +24,7 @@ fn entered(core: Core, p: Pointer, d: Descriptor) -> After
     ensures { λ x. ⌜ Enters core p d x ⌝ }
 {
     After {
-        core: segments::state::with_ipr(core, p),
+        core: state::with_ipr(core, p),
         code: d,
         end: End::Completed,
     }
@@ -36,12 +36,12 @@ pub fn transfer(core: Core, code: Descriptor, memory: &[u64], opcode: u8, t: Poi
     ensures { λ x. ⌜ Does-with-any-prs core code (now (memory .entry)) (λ r. Step.transfer (taken opcode (core .a)) r (as-pointer t)) x (now (memory .entry)) ⌝ }
 {
     if !opcodes::arithmetic::is_taken(opcode, core.a) {
-        return segments::state::completed(core, code);
+        return state::completed(core, code);
     }
     let dbr = core.dbr;
     let ipr = core.ipr;
     match segments::access::look(Use::Transfer, dbr, memory, ipr, t) {
-        Translated::Refused(n) => segments::state::faulted(core, code, n, t),
+        Translated::Refused(n) => state::faulted(core, code, n, t),
         Translated::Passed(d) => entered(core, t, d),
     }
 }
@@ -65,10 +65,10 @@ pub fn call(core: Core, code: Descriptor, prs: &mut [u16; 24], memory: &[u64], t
     let dbr = core.dbr;
     let ipr = core.ipr;
     match segments::access::look(Use::Call, dbr, memory, ipr, t) {
-        Translated::Refused(n) => segments::state::faulted(core, code, n, t),
+        Translated::Refused(n) => state::faulted(core, code, n, t),
         Translated::Passed(d) => {
-            let ring = segments::questions::new_ring(t, d);
-            segments::prs::set_pr(prs, 7, stack_base(ring));
+            let ring = questions::new_ring(t, d);
+            state::prs::set_pr(prs, 7, stack_base(ring));
             let mut p = t;
             p.ring = ring;
             entered(core, p, d)
@@ -83,9 +83,9 @@ fn raise_rings(prs: &mut [u16; 24], ring: u64)
 {
     let mut k: usize = 0;
     while k < 8 {
-        let mut p = segments::prs::pr(prs, k);
-        p.ring = segments::state::larger(ring, p.ring);
-        segments::prs::set_pr(prs, k, p);
+        let mut p = state::prs::pr(prs, k);
+        p.ring = state::larger(ring, p.ring);
+        state::prs::set_pr(prs, k, p);
         k += 1;
     }
 }
@@ -102,7 +102,7 @@ pub fn return_to(
 {
     let dbr = core.dbr;
     match segments::access::look(Use::Return, dbr, memory, t, t) {
-        Translated::Refused(n) => segments::state::faulted(core, code, n, t),
+        Translated::Refused(n) => state::faulted(core, code, n, t),
         Translated::Passed(d) => {
             raise_rings(prs, t.ring);
             entered(core, t, d)

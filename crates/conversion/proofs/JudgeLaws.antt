@@ -9,8 +9,8 @@ use Rattle.model.specs.Questions.{start-questions}
 use Rattle.model.specs.Image as Image
 use Rattle.machine.specs.declared.Prepared.{Prepared}
 use Rattle.machine.specs.Answered.{Prepared-as}
-use Rattle.records.specs.declared.loading.Loading.{Loading}
-use Rattle.records.specs.View.{as-loading, Loading-within}
+use Rattle.loading.specs.declared.Loading.{Loading}
+use Rattle.loading.specs.View.{as-loading, Loading-within}
 use Rattle.image.proofs.LoadLaws.{words-within, loaded-machine}
 
 module _ (l : Loading) (m : List ℕ) (w : Loading-within l m) (h : l .«has_memory» ≡ true) where

@@ -13,10 +13,10 @@ use Rattle.model.specs.Image as Image
 use Rattle.model.specs.Convert.{compacted, convert-on, convert-after}
 use Rattle.model.proofs.ImageLaws.{checked-refused, checked-passed}
 use Rattle.model.proofs.LastLaws.{compacted-early}
-use Rattle.records.specs.declared.loading.Loading.{Loading}
-use Rattle.records.specs.View.{as-loading, Loading-within}
-use Rattle.records.specs.Record.{Goes, outcome-image}
-use Rattle.records.proofs.RecordLaws.{within-still}
+use Rattle.loading.specs.declared.Loading.{Loading}
+use Rattle.loading.specs.View.{as-loading, Loading-within}
+use Rattle.loading.specs.Record.{Goes, outcome-image}
+use Rattle.loading.proofs.RecordLaws.{within-still}
 use Rattle.image.specs.declared.load.LoadOutcome.the-variants as Load
 use Rattle.image.specs.declared.load.Loaded.{Loaded}
 use Rattle.image.specs.Load.{Loaded-as}

@@ -8,8 +8,8 @@ use lib.ListN.{length, take, drop, replicate}
 use lib.Seq.{take-length}
 use Rattle.model.specs.Image as Image
 use Rattle.model.specs.Convert.{compacted, convert-call-on, convert-call}
-use Rattle.records.specs.declared.loading.Loading.{Loading}
-use Rattle.records.specs.View.{rules-of, as-loading, Starts}
+use Rattle.loading.specs.declared.Loading.{Loading}
+use Rattle.loading.specs.View.{rules-of, as-loading, Starts}
 use Rattle.calls.specs.Call.{Called-as}
 use Rattle.calls.proofs.CallLaws.{refuses, wrote}
 use Rattle.image.proofs.LoadLaws.{may-load}

@@ -7,10 +7,10 @@ use lib.ListN.{length, take, drop}
 use Rattle.model.specs.Registers.{Machine}
 use Rattle.model.specs.Run.{refused}
 use Rattle.model.specs.Image as Image
-use Rattle.model.specs.Listing.{last-line}
+use Rattle.model.specs.Listing.{refusal-line}
 use Rattle.model.specs.Convert.{convert-after}
-use Rattle.records.specs.declared.loading.Loading.{Loading}
-use Rattle.records.specs.View.{as-loading, Loading-within}
+use Rattle.loading.specs.declared.Loading.{Loading}
+use Rattle.loading.specs.View.{as-loading, Loading-within}
 use Rattle.compaction.specs.Compacted.{Compacted}
 use Rattle.conversion.specs.declared.ConvertOutcome.{ConvertOutcome}
 use Rattle.conversion.specs.declared.ConvertOutcome.the-variants.{Refused, More, Ready}
@@ -50,7 +50,7 @@ pub record Piece-converted (l : Loading) (m t : List ℕ) (kept size : ℕ) (e :
 
 -- what `convert` gives for the records so far and more bytes, by the outcome
 unfoldable pub convert-by : ConvertOutcome → (after : Image.Loading) → (size : ℕ) → (buffer rest : List ℕ) → List ℕ
-convert-by (Refused n) k size u rest = last-line (refused n)
+convert-by (Refused n) k size u rest = refusal-line n
 convert-by (More n) k size u rest = convert-after k (take n u) (waiting n size u ++ rest)
 convert-by (Ready n) k size u rest = take n u
 

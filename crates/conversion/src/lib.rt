@@ -6,12 +6,12 @@ ghost use lib.ListN.{length};
 ghost use Rattle.model.specs.Convert.{convert-call};
 ghost use Rattle.model.specs.Image.{machine-of};
 ghost use Rattle.model.specs.Questions.{start-questions};
-ghost use Rattle.records.specs.View.{as-loading, Loading-within};
+ghost use Rattle.loading.specs.View.{as-loading, Loading-within};
 ghost use Rattle.calls.specs.Call.{Called-as};
 ghost use Rattle.conversion.specs.Piece.{Piece-converted, Room-made};
 use calls::Called;
 use image::load::LoadOutcome;
-use records::loading::Loading;
+use loading::Loading;
 
 pub enum ConvertOutcome {
     // The first question with a no.
@@ -92,10 +92,10 @@ pub fn make_room(buffer: &mut [u8], kept: usize, size: usize) -> usize
 pub fn convert(image: &mut [u8]) -> Called
     ensures { λ x. ⌜ Called-as (convert-call (now (image .entry))) x (now (image .exit)) ⌝ }
 {
-    let mut store = records::loading::empty_store();
+    let mut store = loading::empty_store();
     let size = image.len();
     let x = convert_piece(
-        records::loading::nothing_loaded(true),
+        loading::nothing_loaded(true),
         &mut store,
         image,
         0,

@@ -6,8 +6,8 @@ use Prim.Native.Nat.{ℕ, _≤_}
 use native.Mathlib.Omega.{arith}
 use lib.ListN.{length, take}
 use lib.Seq.{length-take-le}
-use Rattle.records.specs.declared.loading.Loading.{Loading}
-use Rattle.records.specs.View.{Loading-within}
+use Rattle.loading.specs.declared.Loading.{Loading}
+use Rattle.loading.specs.View.{Loading-within}
 use Rattle.conversion.specs.declared.ConvertOutcome.{ConvertOutcome}
 use Rattle.conversion.specs.declared.ConvertOutcome.the-variants.{Refused, More, Ready}
 use Rattle.conversion.specs.declared.Converted.{Converted}

@@ -3,8 +3,8 @@ use mathlib.Core.Path.{_≡_}
 use mathlib.Core.List.{List}
 use Prim.Native.Nat.{ℕ, _≤_}
 use lib.ListN.{length}
-use Rattle.records.specs.declared.loading.Loading.{Loading}
-use Rattle.records.specs.View.{Loading-within}
+use Rattle.loading.specs.declared.Loading.{Loading}
+use Rattle.loading.specs.View.{Loading-within}
 use Rattle.conversion.specs.declared.ConvertOutcome.{ConvertOutcome}
 use Rattle.conversion.specs.declared.ConvertOutcome.the-variants as Convert
 use Rattle.convert.specs.declared.Progress.{Progress}

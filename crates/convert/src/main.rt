@@ -6,7 +6,7 @@ ghost use Rattle.convert.specs.Turn.{Goes-on, Outcome-within, Progress-f
 use conversion::ConvertOutcome;
 use conversion::Converted;
 use libc::STDOUT_FILENO;
-use records::loading::Loading;
+use loading::Loading;
 
 enum Progress {
     // The input goes on.
@@ -102,9 +102,9 @@ fn convert_once(loading: Loading, room: Room, store: &mut [u64], buffer: &mut [u
 fn convert_input(buffer: &mut [u8]) -> Progress
     ensures { λ p. ⌜ Progress-fits p (now (buffer .exit)) ⌝ }
 {
-    let mut store = records::loading::empty_store();
+    let mut store = loading::empty_store();
     let mut x = Turn {
-        loading: records::loading::nothing_loaded(true),
+        loading: loading::nothing_loaded(true),
         room: Room { kept: 0, size: 0 },
         progress: Progress::Reads,
     };

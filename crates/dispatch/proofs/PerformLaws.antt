@@ -18,10 +18,10 @@ use Rattle.words.specs.View.{as-pointer}
 use Rattle.words.specs.declared.descriptor.Descriptor.{Descriptor}
 use Rattle.words.specs.declared.pointer.Pointer as Code
 use Rattle.opcodes.specs.Table.{result, taken}
-use Rattle.segments.specs.View.{as-pointers, pr-of, registers-with, machine-with, ended, Does, Does-with-any-prs, Finishes, Finishes-with-any-prs, faulted-after}
-use Rattle.segments.specs.declared.state.Core.{Core}
-use Rattle.segments.specs.declared.state.After.{After}
-use Rattle.segments.proofs.DoesLaws.{does-fault, does-as, does-finish}
+use Rattle.state.specs.View.{as-pointers, pr-of, registers-with, machine-with, ended, Does, Does-with-any-prs, Finishes, Finishes-with-any-prs, faulted-after}
+use Rattle.state.specs.declared.Core.{Core}
+use Rattle.state.specs.declared.After.{After}
+use Rattle.state.proofs.DoesLaws.{does-fault, does-as, does-finish}
 use Rattle.dispatch.specs.Dispatch.{dispatched, dispatched-in, Halts}
 
 or-true : (a : Bool) {b : Bool} → b ≡ true → a || b ≡ true

@@ -12,10 +12,10 @@ use Rattle.model.specs.Opcodes.{Opcode, decoded}
 use Rattle.model.specs.Program.{Program, fail}
 use Rattle.model.specs.Step.{perform}
 use Rattle.words.specs.declared.descriptor.Descriptor.{Descriptor}
-use Rattle.segments.specs.View.{Becomes}
-use Rattle.segments.specs.declared.state.Core.{Core}
-use Rattle.segments.specs.declared.state.After.{After}
-use Rattle.segments.specs.declared.state.End.the-variants.{Halted}
+use Rattle.state.specs.View.{Becomes}
+use Rattle.state.specs.declared.Core.{Core}
+use Rattle.state.specs.declared.After.{After}
+use Rattle.state.specs.declared.End.the-variants.{Halted}
 
 -- once TPR is formed: 32 and 33, and what the opcode does there
 unfoldable pub dispatched : (size : ℕ) → Registers.Registers → Words.Instruction → Option Opcode → Words.Pointer → Program

@@ -4,11 +4,11 @@ ghost use mathlib.Core.Path.{_≡_};
 ghost use mathlib.Core.Bool.{true};
 ghost use Rattle.model.specs.Questions.{all, pointer-in-range};
 ghost use Rattle.words.specs.View.{as-pointer, Pointer-within};
-ghost use Rattle.segments.specs.View.{as-pointers, as-machine, Ready, Does};
+ghost use Rattle.state.specs.View.{as-pointers, as-machine, Ready, Does};
 ghost use Rattle.dispatch.specs.Dispatch.{dispatched-in, Halts};
-use segments::state::After;
-use segments::state::Core;
-use segments::state::End;
+use state::After;
+use state::Core;
+use state::End;
 use words::descriptor::Descriptor;
 use words::pointer::Pointer;
 
@@ -17,7 +17,7 @@ fn halt(core: Core, code: Descriptor) -> After
     ensures { λ x. ⌜ Halts core code x ⌝ }
 {
     After {
-        core: segments::state::advanced(core),
+        core: state::advanced(core),
         code,
         end: End::Halted,
     }
@@ -61,16 +61,16 @@ pub fn perform(
         33 => control::return_to(core, code, prs, memory, t),
         40 => {
             if core.ipr.ring != 0 {
-                return segments::state::faulted(core, code, 33, ipr);
+                return state::faulted(core, code, 33, ipr);
             }
             operations::access::load_dbr(core, code, memory, t)
         }
         41 => {
             if ipr.ring != 0 {
-                return segments::state::faulted(core, code, 33, ipr);
+                return state::faulted(core, code, 33, ipr);
             }
             halt(core, code)
         }
-        _ => segments::state::faulted(core, code, 32, ipr),
+        _ => state::faulted(core, code, 32, ipr),
     }
 }

@@ -15,18 +15,18 @@ use Rattle.model.specs.Listing.{listing}
 use Rattle.model.proofs.ImageLaws.{checked-refused, checked-passed}
 use Rattle.model.specs.Bench as Bench
 use Rattle.model.specs.Bench.{call-refused, call-wrote, bench-on, bench}
-use Rattle.segments.specs.View.{as-machine}
+use Rattle.state.specs.View.{as-machine}
 use Rattle.host.specs.declared.record.Registers as Host
 use Rattle.host.specs.Record.{registers-of, machine-of}
 use Rattle.machine.specs.declared.Prepared.{Prepared}
 use Rattle.machine.specs.Answered.{Prepared-as}
 use Rattle.machine.proofs.AskLaws.{prepared-passes}
 use Rattle.listing.specs.Lines.{Whole-listing}
-use Rattle.records.specs.declared.loading.Loading.{Loading}
+use Rattle.loading.specs.declared.Loading.{Loading}
 use Rattle.image.specs.declared.load.Loaded.{Loaded}
 use Rattle.image.specs.declared.load.LoadOutcome.the-variants.{Refused, More, Ready}
-use Rattle.records.specs.View.{rules-of, as-loading, Starts}
-use Rattle.records.specs.Record.{outcome-image}
+use Rattle.loading.specs.View.{rules-of, as-loading, Starts}
+use Rattle.loading.specs.Record.{outcome-image}
 use Rattle.image.specs.Load.{as-outcome, Loaded-as}
 use Rattle.image.proofs.LoadLaws.{image-loaded, may-load, words-within, loaded-machine}
 use Rattle.calls.specs.declared.Called.{Called}

@@ -34,13 +34,8 @@ pub fn list_loaded(registers: Registers, memory: &mut [u64], budget: u32, text: 
 pub fn bench(image: &[u8], text: &mut [u8]) -> Called
     ensures { λ x. ⌜ Called-as (Bench.bench (now (image .entry)) (now (text .entry))) x (now (text .exit)) ⌝ }
 {
-    let mut store = records::loading::empty_store();
-    let x = image::load::load(
-        records::loading::nothing_loaded(false),
-        &mut store,
-        image,
-        true,
-    );
+    let mut store = loading::empty_store();
+    let x = image::load::load(loading::nothing_loaded(false), &mut store, image, true);
     let loading = x.loading;
     let outcome = x.outcome;
     match outcome {

@@ -9,7 +9,7 @@ use lib.Seq.{take-all, take-suc, take-suc-set}
 use Rattle.model.specs.Words.{Pointer}
 use Rattle.model.specs.Registers.{Registers}
 use Rattle.model.specs.Image.{number-at, pointer-at, pointers-at, registers-at}
-use Rattle.segments.specs.View.{pointers-in, as-pointers}
+use Rattle.state.specs.View.{pointers-in, as-pointers}
 
 pub pointer-read : (a n s i : ℕ) (bs : List ℕ) → n ≡ number-at a 1 bs → s ≡ number-at (a + 1) 2 bs → i ≡ number-at (a + 3) 2 bs →
     _≡_ {A = Pointer} (record { ring = n; segment = s; word = i }) (pointer-at a bs)

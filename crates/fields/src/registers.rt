@@ -3,7 +3,7 @@ ghost use mathlib.Core.Path.{_≡_};
 ghost use Prim.Native.Nat.{_+_, _≤_};
 ghost use lib.ListN.{length};
 ghost use Rattle.model.specs.Image.{pointer-at, pointers-at, registers-at};
-ghost use Rattle.segments.specs.View.{as-pointers};
+ghost use Rattle.state.specs.View.{as-pointers};
 ghost use Rattle.host.specs.Record.{pointer-of, registers-of};
 use crate::number::number_1;
 use crate::number::number_2;
@@ -32,7 +32,7 @@ pub fn prs_at(bytes: &[u8]) -> [u16; 24]
     let mut k: usize = 0;
     while k < 8 {
         let p = pointer_at(bytes, 21 + 5 * k);
-        segments::prs::set_pr(&mut prs, k, host::record::to_core(p));
+        state::prs::set_pr(&mut prs, k, host::record::to_core(p));
         k += 1;
     }
     prs

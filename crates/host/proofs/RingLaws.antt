@@ -12,7 +12,7 @@ use borrow.Author.Tests.{not-false, leb-true, le-leb, eqb-true, eq-eqb}
 use Rattle.model.specs.Words.{Pointer}
 use Rattle.model.specs.Questions.{all, pointer-in-range, rings-at-least}
 use Rattle.model.proofs.BranchLaws.{and-left, and-right, and-both}
-use Rattle.segments.specs.View.{pointers-in, as-pointers, pr-of}
+use Rattle.state.specs.View.{pointers-in, as-pointers, pr-of}
 use Rattle.host.specs.Rings.{packed, packed-rings, ones, eights, joined, joined-segments}
 
 same-test : (p q : Bool) → (p ≡ true → q ≡ true) → (q ≡ true → p ≡ true) → p ≡ q

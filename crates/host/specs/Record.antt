@@ -7,8 +7,8 @@ use Rattle.model.specs.Registers as Registers
 use Rattle.host.specs.declared.record.DescriptorBase.{DescriptorBase}
 use Rattle.host.specs.declared.record.Pointer.{Pointer}
 use Rattle.host.specs.declared.record.Registers as Record
-use Rattle.segments.specs.declared.state.Core.{Core}
-use Rattle.segments.specs.View.{as-pointers, registers-with}
+use Rattle.state.specs.declared.Core.{Core}
+use Rattle.state.specs.View.{as-pointers, registers-with}
 
 abbrev pub pointer-of : Pointer → Words.Pointer
 pointer-of p = record { ring = p .ring; segment = p .segment; word = p .word }

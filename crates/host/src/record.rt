@@ -2,10 +2,10 @@
 ghost use mathlib.Core.Path.{_≡_};
 ghost use Prim.Native.Nat.{_≤_};
 ghost use Rattle.words.specs.View as Words;
-ghost use Rattle.segments.specs.View.{as-dbr};
+ghost use Rattle.segments.specs.Translation.{as-dbr};
 ghost use Rattle.host.specs.Record.{pointer-of, base-of, Converted};
-use segments::state::Core;
 use segments::translate::Dbr;
+use state::Core;
 use words::pointer::SegmentNumber;
 use words::pointer::WordNumber;
 

@@ -6,9 +6,9 @@ ghost use lib.Bits.{bitAnd, bitOr};
 ghost use lib.Dec.{eqb};
 ghost use Rattle.model.specs.Questions as Questions;
 ghost use Rattle.words.specs.View.{as-pointer};
-ghost use Rattle.segments.specs.View.{as-pointers, as-machine, pr-of};
+ghost use Rattle.state.specs.View.{as-pointers, as-machine, pr-of};
 ghost use Rattle.host.specs.Rings.{packed-rings, Joined, ones, eights};
-use segments::state::Core;
+use state::Core;
 use words::pointer::Pointer;
 
 // 2 of one pointer.
@@ -23,7 +23,7 @@ fn ring_of(prs: &[u16; 24], number: usize) -> u64
     requires { ⌜ number < 8 ⌝ }
     ensures { λ r. ⌜ (r ≡ pr-of (now (prs .entry)) number .ring) × (r ≤ 255) ⌝ }
 {
-    segments::prs::pr(prs, number).ring
+    state::prs::pr(prs, number).ring
 }
 
 // SEGNO of a PR; WORDNO is in range as it is.
@@ -31,7 +31,7 @@ fn segment_of(prs: &[u16; 24], number: usize) -> u64
     requires { ⌜ number < 8 ⌝ }
     ensures { λ s. ⌜ (s ≡ pr-of (now (prs .entry)) number .segment) × (pr-of (now (prs .entry)) number .word ≤ 65535) ⌝ }
 {
-    segments::prs::pr(prs, number).segment.0
+    state::prs::pr(prs, number).segment.0
 }
 
 // The rings of the PRs, a byte each.

@@ -16,13 +16,13 @@ use Rattle.model.specs.Image as Image
 use Rattle.model.specs.Image.{image-after}
 use Rattle.host.specs.Record.{registers-of}
 use Rattle.model.specs.Registers.{machine}
-use Rattle.records.specs.declared.loading.Loading.{Loading}
-use Rattle.records.specs.declared.loading.Outcome.{Outcome}
-use Rattle.records.specs.declared.loading.Outcome.the-variants.{Refused, Waits, Next, Ready}
+use Rattle.loading.specs.declared.Loading.{Loading}
+use Rattle.loading.specs.declared.Outcome.{Outcome}
+use Rattle.loading.specs.declared.Outcome.the-variants.{Refused, Waits, Next, Ready}
 use Rattle.image.specs.declared.load.LoadOutcome.the-variants as Load
-use Rattle.records.specs.View.{as-loading, Loading-within, Memory-within, Starts}
-use Rattle.records.specs.Record.{outcome-image, Goes, Outcome-within, Kept, Recorded-as, Recorded-in-store}
-use Rattle.records.specs.declared.loading.Recorded.{Recorded}
+use Rattle.loading.specs.View.{as-loading, Loading-within, Memory-within, Starts}
+use Rattle.loading.specs.Record.{outcome-image, Goes, Outcome-within, Kept, Recorded-as, Recorded-in-store}
+use Rattle.loading.specs.declared.Recorded.{Recorded}
 use Rattle.image.specs.Load.{Loaded-so-far, Word-if, Word-loaded, Words-loaded, Loaded-as}
 
 pub no-record-yet : (l : Loading) (m bs : List ℕ) (e : Bool) → Loading-within l m → Loaded-so-far l m bs e 0 l m

@@ -9,12 +9,12 @@ use lib.Seq.{length-take-le}
 use Rattle.model.specs.Image as Image
 use Rattle.buffers.specs.Move.{moved-down}
 use Rattle.buffers.proofs.MoveLaws.{take-moved, part-of-front}
-use Rattle.records.specs.declared.loading.Loading.{Loading}
+use Rattle.loading.specs.declared.Loading.{Loading}
 use Rattle.image.specs.declared.load.LoadOutcome.{LoadOutcome}
 use Rattle.image.specs.declared.load.LoadOutcome.the-variants.{Refused, More, Ready}
 use Rattle.image.specs.declared.load.Loaded.{Loaded}
-use Rattle.records.specs.View.{as-loading, Loading-within}
-use Rattle.records.specs.Record.{Goes, outcome-image}
+use Rattle.loading.specs.View.{as-loading, Loading-within}
+use Rattle.loading.specs.Record.{Goes, outcome-image}
 use Rattle.image.specs.Load.{as-outcome, Load-outcome-within, Loaded-as}
 use Rattle.image.proofs.LoadLaws.{words-within}
 use Rattle.image.specs.Piece.{piece-image, Piece-goes, Piece-within, Piece-loaded}

@@ -6,14 +6,14 @@ use mathlib.Core.Option.{some}
 use Prim.Native.Nat.{ℕ, _-_, _≤_, _<_}
 use lib.ListN.{length}
 use Rattle.model.specs.Image as Image
-use Rattle.records.specs.declared.loading.Loading.{Loading}
-use Rattle.records.specs.declared.loading.Outcome.{Outcome}
-use Rattle.records.specs.declared.loading.Outcome.the-variants as Outcome
+use Rattle.loading.specs.declared.Loading.{Loading}
+use Rattle.loading.specs.declared.Outcome.{Outcome}
+use Rattle.loading.specs.declared.Outcome.the-variants as Outcome
 use Rattle.image.specs.declared.load.LoadOutcome.{LoadOutcome}
 use Rattle.image.specs.declared.load.LoadOutcome.the-variants.{Refused, More, Ready}
 use Rattle.image.specs.declared.load.Loaded.{Loaded}
-use Rattle.records.specs.View.{as-loading, Loading-within}
-use Rattle.records.specs.Record.{Goes}
+use Rattle.loading.specs.View.{as-loading, Loading-within}
+use Rattle.loading.specs.Record.{Goes}
 
 -- l and m before the first record; `at` bytes are used, and k and its store are what they left
 pub record Loaded-so-far (l : Loading) (m bs : List ℕ) (e : Bool) (at : ℕ) (k : Loading) (m-now : List ℕ) : Type 0 where

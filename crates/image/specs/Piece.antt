@@ -5,11 +5,11 @@ use mathlib.Core.List.{List, [], _++_}
 use Prim.Native.Nat.{ℕ, _≤_, _<_}
 use lib.ListN.{take}
 use Rattle.model.specs.Image as Image
-use Rattle.records.specs.declared.loading.Loading.{Loading}
+use Rattle.loading.specs.declared.Loading.{Loading}
 use Rattle.image.specs.declared.load.LoadOutcome.{LoadOutcome}
 use Rattle.image.specs.declared.load.LoadOutcome.the-variants.{Refused, More, Ready}
 use Rattle.image.specs.declared.load.Loaded.{Loaded}
-use Rattle.records.specs.View.{as-loading, Loading-within}
+use Rattle.loading.specs.View.{as-loading, Loading-within}
 
 -- the image, by an outcome, what is loaded after it, the buffer and the bytes that come after what it keeps
 unfoldable pub piece-image : LoadOutcome → Image.Loading → (buffer rest : List ℕ) → Image.Image

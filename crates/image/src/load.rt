@@ -1,10 +1,10 @@
 // Records one after another, until one is refused, the bytes don't hold a whole one, or RN has come.
-ghost use Rattle.records.specs.View.{Loading-within};
+ghost use Rattle.loading.specs.View.{Loading-within};
 ghost use Rattle.image.specs.Load.{Loaded-as};
 use crate::words::load_next;
-use records::loading::Loading;
-use records::loading::Outcome;
-use records::loading::Recorded;
+use loading::Loading;
+use loading::Outcome;
+use loading::Recorded;
 
 pub enum LoadOutcome {
     // The first question with a no.

@@ -1,12 +1,12 @@
 // An image that comes in pieces: what a buffer holds is loaded, and the start of a record that isn't whole yet is kept.
 ghost use Prim.Native.Nat.{_≤_};
 ghost use lib.ListN.{length, take};
-ghost use Rattle.records.specs.View.{Loading-within};
+ghost use Rattle.loading.specs.View.{Loading-within};
 ghost use Rattle.image.specs.Piece.{Piece-loaded};
 use crate::load::LoadOutcome;
 use crate::load::Loaded;
 use buffers::move_down;
-use records::loading::Loading;
+use loading::Loading;
 
 // Loads the buffer's first `size` bytes; of those that wait for more, `More` says how many stand at its front. `ended`: no bytes come after these.
 pub fn load_piece(

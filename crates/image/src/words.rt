@@ -1,10 +1,10 @@
 // WD records one after another: what the records so far gave isn't carried from one to the next, since a WD changes the store alone.
-ghost use Rattle.records.specs.Record.{Recorded-as};
-ghost use Rattle.records.specs.View.{Loading-within};
+ghost use Rattle.loading.specs.Record.{Recorded-as};
+ghost use Rattle.loading.specs.View.{Loading-within};
 ghost use Rattle.image.specs.Load.{Word-if, Word-loaded, Words-loaded};
-use records::loading::Loading;
-use records::loading::Outcome;
-use records::loading::Recorded;
+use loading::Loading;
+use loading::Outcome;
+use loading::Recorded;
 
 fn is_word(bytes: &[u8]) -> bool
     ensures { λ r. ⌜ Word-if r (now (bytes .entry)) ⌝ }
@@ -23,7 +23,7 @@ fn load_front(loading: Loading, store: &mut [u64], bytes: &[u8]) -> usize
     if !is_word(bytes) {
         return 0;
     }
-    let x = records::record::load_word(loading, store, bytes);
+    let x = loading::word::load_word(loading, store, bytes);
     let outcome = x.outcome;
     match outcome {
         Outcome::Refused(_n) => 0,
@@ -60,5 +60,5 @@ pub fn load_next(loading: Loading, store: &mut [u64], bytes: &[u8], ended: bool)
             outcome: Outcome::Next(used),
         };
     }
-    records::record::load_record(loading, store, bytes, ended)
+    records::load_record(loading, store, bytes, ended)
 }

@@ -1,44 +1,26 @@
--- What a run on a record's parts answers, from the run on the core's numbers. Assumes nothing.
-use mathlib.Core.Path.{_≡_, _∙_, ap}
+-- A run and a single step by one call. Assumes nothing.
+use mathlib.Core.Path.{_≡_, sym, _∙_, ap}
+use mathlib.Core.Bool.{true, false}
 use mathlib.Core.List.{List}
-use Prim.Native.Nat.{ℕ, _≤_}
-use Rattle.model.specs.Registers.{Machine}
-use Rattle.model.specs.Answers.{reply-numbers}
-use Rattle.model.specs.Run.{run}
-use Rattle.words.specs.View.{as-pointer}
-use Rattle.words.specs.declared.pointer.Pointer as Core
-use Rattle.segments.specs.View.{as-dbr, as-machine}
-use Rattle.segments.specs.declared.translate.Dbr.{Dbr}
-use Rattle.host.specs.Record.{pointer-of, base-of, machine-of, In-record}
-use Rattle.host.specs.declared.record.DescriptorBase.{DescriptorBase}
-use Rattle.host.specs.declared.record.Pointer.{Pointer}
-use Rattle.host.proofs.RecordLaws.{registers-same}
-use Rattle.machine.specs.Answered.{core-of, Answered-as}
-use Rattle.machine.specs.declared.Answered as Numbered
-use Rattle.kuzhlemor.specs.Entry.{together, Run-says}
+use Prim.Native.Nat.{ℕ}
+use Rattle.model.specs.Run.{after}
+use Rattle.model.proofs.TickLaws.{single-count-of-run}
+use Rattle.model.proofs.CountLaws.{single-step-runs}
+use Rattle.host.specs.declared.record.Registers.{Registers}
+use Rattle.entry.specs.Call.{Call-says}
+use Rattle.entry.specs.declared.Answer.{Answer}
+use Rattle.kuzhlemor.specs.Entry.{Run-says, Step-says}
 
-pub parts-fit : (a : ℕ) (d : Dbr) (p : Core.Pointer) → d .address ≤ 4294967295 → d .length ≤ 65535 → p .ring ≤ 255 → p .segment .0 ≤ 65535 → p .word .0 ≤ 65535 →
-    In-record (core-of a (d .address) (d .length) (p .ring) (p .segment .0) (p .word .0))
-parts-fit a d p i j k l m = record { ring-fits = k; segment-fits = l; word-fits = m; address-fits = i; length-fits = j }
+module _ (h : Registers) (ys : List ℕ) (r : Answer) (h′ : Registers) (zs : List ℕ) where
+  pub as-run : (n : ℕ) → Call-says false n h ys r h′ zs → Run-says n h ys r h′ zs
+  as-run n s = record { answer-same = s .answer-same; registers-same = s .registers-same; memory-same = s .memory-same; pointers-same = s .pointers-same }
 
--- a record's parts in the core's form
-module _ (a : ℕ) (dbr : DescriptorBase) (ipr : Pointer) (prs memory : List ℕ) (d : Dbr) (p : Core.Pointer) (e : as-dbr d ≡ base-of dbr) (f : as-pointer p ≡ pointer-of ipr) where
-  same-machine : as-machine (core-of a (d .address) (d .length) (p .ring) (p .segment .0) (p .word .0)) prs memory ≡ machine-of (together a dbr ipr prs) memory
-  same-machine = ap (λ r. record { registers = r; memory = memory }) (registers-same a _ _ _ _ _ e f)
-
-  module _ (b : ℕ) (trace : List ℕ) (x : Numbered.Answered) (prs-now memory-now trace-now : List ℕ)
-      (s : Answered-as b (core-of a (d .address) (d .length) (p .ring) (p .segment .0) (p .word .0)) prs memory trace x prs-now memory-now trace-now) where
-    pub run-says : (q r : Pointer) (c : DescriptorBase) → pointer-of q ≡ as-pointer (x .pointer) → pointer-of r ≡ as-pointer (x .core .ipr) → base-of c ≡ as-dbr (x .core .dbr) →
-        Run-says b (together a dbr ipr prs) memory (record { kind = x .kind; number = x .number; count = x .count; pointer = q }) (together (x .core .a) c r prs-now) memory-now
-    run-says q r c g h i =
-        record {
-          answer-same =
-              ap (λ t. record { kind = x .kind; number = x .number; count = x .count; pointer = t }) g
-              ∙ s .numbers-same
-              ∙ ap (λ m. reply-numbers (run b m .reply)) same-machine;
-          registers-same =
-              registers-same (x .core .a) _ _ _ _ _ i h
-              ∙ ap (λ (m : Machine). m .registers) (s .machine-same)
-              ∙ ap (λ m. run b m .machine .registers) same-machine;
-          memory-same = ap (λ (m : Machine). m .memory) (s .machine-same) ∙ ap (λ m. run b m .machine .memory) same-machine;
-        }
+  pub as-step : Call-says true 1 h ys r h′ zs → Step-says h ys r h′ zs
+  unfolding after
+  as-step s =
+      record {
+        answer-same = s .answer-same ∙ sym (single-step-runs _ .1);
+        registers-same = s .registers-same ∙ sym (ap (λ k. k .registers) (single-step-runs _ .0));
+        memory-same = s .memory-same ∙ sym (ap (λ k. k .memory) (single-step-runs _ .0));
+        pointers-same = s .pointers-same ∙ sym (single-count-of-run _);
+      }

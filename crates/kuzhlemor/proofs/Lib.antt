@@ -1,3 +1,2 @@
 -- What the proofs of this crate share. Assumes nothing.
-pub mod InPlace
 pub mod EntryLaws

@@ -2,27 +2,21 @@
 use mathlib.Core.Path.{_≡_}
 use mathlib.Core.List.{List}
 use Prim.Native.Nat.{ℕ}
-use Rattle.model.specs.Answers.{Numbers, reply-numbers, step-numbers}
-use Rattle.model.specs.Run.{run, single-step}
-use Rattle.host.specs.Record.{pointer-of, registers-of, machine-of}
-use Rattle.host.specs.declared.record.DescriptorBase.{DescriptorBase}
-use Rattle.host.specs.declared.record.Pointer.{Pointer}
+use Rattle.model.specs.Answers.{reply-numbers, step-numbers}
+use Rattle.model.specs.Run.{run, single-step, total, single-count}
+use Rattle.host.specs.Record.{registers-of, machine-of}
 use Rattle.host.specs.declared.record.Registers.{Registers}
-use Rattle.kuzhlemor.specs.declared.Answer.{Answer}
-
--- a record by its parts
-abbrev pub together : (a : ℕ) → DescriptorBase → Pointer → (prs : List ℕ) → Registers
-together a dbr ipr prs = record { a = a; dbr = dbr; ipr = ipr; prs = prs }
-
-abbrev pub as-numbers : Answer → Numbers
-as-numbers a = record { kind = a .kind; number = a .number; count = a .count; pointer = pointer-of (a .pointer) }
+use Rattle.entry.specs.Call.{as-numbers}
+use Rattle.entry.specs.declared.Answer.{Answer}
 
 pub record Run-says (budget : ℕ) (before : Registers) (memory : List ℕ) (answer : Answer) (after : Registers) (memory-now : List ℕ) : Type 0 where
   pub answer-same : as-numbers answer ≡ reply-numbers (run budget (machine-of before memory) .reply)
   pub registers-same : registers-of after ≡ run budget (machine-of before memory) .machine .registers
   pub memory-same : memory-now ≡ run budget (machine-of before memory) .machine .memory
+  pub pointers-same : answer .«pointer_words» ≡ total budget (machine-of before memory)
 
 pub record Step-says (before : Registers) (memory : List ℕ) (answer : Answer) (after : Registers) (memory-now : List ℕ) : Type 0 where
   pub answer-same : as-numbers answer ≡ step-numbers (single-step (machine-of before memory) .reply)
   pub registers-same : registers-of after ≡ single-step (machine-of before memory) .machine .registers
   pub memory-same : memory-now ≡ single-step (machine-of before memory) .machine .memory
+  pub pointers-same : answer .«pointer_words» ≡ single-count (machine-of before memory)

@@ -2,68 +2,10 @@
 ghost use mathlib.Core.Path.{_≡_};
 ghost use Rattle.model.specs.Bench as Bench;
 ghost use Rattle.model.specs.Convert.{convert-call};
-ghost use Rattle.kuzhlemor.specs.Entry.{together, Run-says, Step-says};
-use host::record::DescriptorBase;
-use host::record::Pointer;
+ghost use Rattle.kuzhlemor.specs.Entry.{Run-says, Step-says};
+use entry::Answer;
 use host::record::Registers;
 
-// An answer as numbers. Kinds: 0 refused, 1 spent or completed, 2 halted, 3 fault; what a kind leaves free is 0.
-#[repr(C)]
-pub struct Answer {
-    pub kind: u32,
-    pub number: u32,
-    pub count: u32,
-    pub pointer: Pointer,
-}
-
-// An answer, and the record's fields beside its array.
-pub struct Answered {
-    pub answer: Answer,
-    pub a: u64,
-    pub dbr: DescriptorBase,
-    pub ipr: Pointer,
-}
-
-// A run on the parts of a record: its PRs are lent, the rest comes and goes by value.
-pub fn run_fields(
-    prs: &mut [u16; 24],
-    memory: &mut [u64],
-    a: u64,
-    dbr: DescriptorBase,
-    ipr: Pointer,
-    budget: u32,
-) -> Answered
-    ensures { λ x. ⌜ Run-says budget (together a dbr ipr (now (prs .entry))) (now (memory .entry)) (x .answer) (together (x .a) (x .dbr) (x .ipr) (now (prs .exit))) (now (memory .exit)) ⌝ }
-{
-    let base = host::record::to_base(dbr);
-    let at = host::record::to_core(ipr);
-    let mut none: [u64; 0] = [];
-    let x = machine::run(
-        a,
-        base.address,
-        base.length,
-        at.ring,
-        at.segment.0,
-        at.word.0,
-        prs,
-        memory,
-        budget,
-        &mut none,
-    );
-    Answered {
-        answer: Answer {
-            kind: x.kind as u32,
-            number: x.number as u32,
-            count: x.count as u32,
-            pointer: host::record::from_core(x.pointer),
-        },
-        a: x.core.a,
-        dbr: host::record::from_base(x.core.dbr),
-        ipr: host::record::from_core(x.core.ipr),
-    }
-}
-
-// A run on the host's own record: its array is lent on in place, the other fields are read before the run and stored after it.
 #[no_mangle]
 pub extern "C" fn kuzhlemor_run(
     registers: &mut Registers,
@@ -72,22 +14,15 @@ pub extern "C" fn kuzhlemor_run(
 ) -> Answer
     ensures { λ r. ⌜ Run-says budget (now (registers .entry)) (now (memory .entry)) r (now (registers .exit)) (now (memory .exit)) ⌝ }
 {
-    let a = registers.a;
-    let dbr = registers.dbr;
-    let ipr = registers.ipr;
-    let x = run_fields(&mut registers.prs, memory, a, dbr, ipr, budget);
-    registers.a = x.a;
-    registers.dbr = x.dbr;
-    registers.ipr = x.ipr;
-    x.answer
+    entry::call(registers, memory, budget, false)
 }
 
-// A single step on the host's own record: it answers as a run of that one step does.
+// A single step answers as a run of that one step does, but for the pointer words of one that faults.
 #[no_mangle]
 pub extern "C" fn kuzhlemor_step(registers: &mut Registers, memory: &mut [u64]) -> Answer
     ensures { λ r. ⌜ Step-says (now (registers .entry)) (now (memory .entry)) r (now (registers .exit)) (now (memory .exit)) ⌝ }
 {
-    kuzhlemor_run(registers, memory, 1)
+    entry::call(registers, memory, 1, true)
 }
 
 // An image and a text buffer, both as bytes, for the image's listing: the question's number negated, or the text's length.

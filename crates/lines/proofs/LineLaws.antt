@@ -1,118 +1,66 @@
--- A line is its words, each put with the byte that ends it. Assumes nothing.
-use mathlib.Core.Path.{_≡_, refl, sym, ap, _∙_}
-use mathlib.Core.List.{List, [], _∷_, _++_}
-use Prim.Native.Nat.{ℕ, _+_, _/_, _%_, _≤_, _<_}
+-- A step's line is its numbers, each put with the byte that ends it. Assumes nothing.
+use mathlib.Core.Path.{_≡_, ap, _∙_}
+use mathlib.Core.List.{List, [], _∷_, _++_, append-assoc}
+use Prim.Native.Nat.{ℕ, _+_, _≤_}
 use native.Mathlib.Omega.{arith}
-use lib.ListN.{length, set, length-append, length-set}
-use Rattle.model.specs.Words as Words
+use lib.ListN.{length, length-append}
+use Rattle.model.specs.Run.{Traced}
 use Rattle.model.specs.Listing.{ascii, decimal, line, step-line}
 use Rattle.text.specs.Text.{placed}
-use Rattle.text.proofs.TextLaws.{placed-byte, length-placed, next-after, put-after}
-use Rattle.text.proofs.DecimalLaws.{decimal-digit, decimal-last}
+use Rattle.text.proofs.TextLaws.{length-placed, next-after, put-after}
+use Rattle.parts.specs.Spaced.{spaced-pointer}
+use Rattle.parts.proofs.PartLaws.{ended}
 
--- a number and the byte that ends it
-abbrev pub ended : (v y : ℕ) → List ℕ
-ended v y = decimal v ++ (y ∷ [])
+-- a step's line: its number, a pointer, and how many pointer words
+module _ (n r s w k : ℕ) where
+  step-line-parts : ended n 32 ++ (spaced-pointer r s w ++ ended k 10) ≡ step-line n (record { ipr = record { ring = r; segment = s; word = w }; pointers = k })
+  unfolding step-line line ascii spaced-pointer
+  step-line-parts =
+      ap (λ bs. ended n 32 ++ bs) (append-assoc (ended r 32) (ended s 32 ++ ended w 32) (ended k 10)
+      ∙ ap (λ bs. ended r 32 ++ bs) (append-assoc (ended s 32) (ended w 32) (ended k 10)))
 
--- a pointer's words, with which a line ends
-abbrev pub words : (ring segment word : ℕ) → List ℕ
-words r s w = line (decimal r ∷ decimal s ∷ decimal w ∷ [])
+  module _ (a b c d : ℕ) (q₁ : b ≡ a + length (ended n 32)) (q₂ : c ≡ b + length (spaced-pointer r s w)) (q₃ : d ≡ c + length (ended k 10)) where
+    pointer-next : d ≡ b + length (spaced-pointer r s w ++ ended k 10)
+    pointer-next = next-after b c d (spaced-pointer r s w) (ended k 10) q₂ q₃
 
-module _ (v a b y : ℕ) where
-  pub next-after-number : b ≡ a + length (decimal v) → b + 1 ≡ a + length (ended v y)
-  next-after-number q = omega (arith, length-append (decimal v) (y ∷ []))
+    pub next-after-step-line : d ≡ a + length (step-line n (record { ipr = record { ring = r; segment = s; word = w }; pointers = k }))
+    next-after-step-line =
+        next-after a b d (ended n 32) (spaced-pointer r s w ++ ended k 10) q₁ pointer-next ∙ ap (λ bs. a + length bs) step-line-parts
 
-  pub number-put : (t u : List ℕ) → u ≡ placed a (decimal v) t → b ≡ a + length (decimal v) → b ≤ a + 10 → a + 11 ≤ length t → set u b y ≡ placed a (ended v y) t
-  number-put t u p q l h =
-      let e : length u ≡ length t = ap length p ∙ length-placed a (decimal v) t (omega arith) in
-      put-after a b (b + 1) (decimal v) (y ∷ []) t u (set u b y) p q (sym (placed-byte b y u (omega arith))) refl (omega arith)
+    module _ (t₀ t₁ t₂ t₃ : List ℕ) (p₁ : t₁ ≡ placed a (ended n 32) t₀) (p₂ : t₂ ≡ placed b (spaced-pointer r s w) t₁)
+        (p₃ : t₃ ≡ placed c (ended k 10) t₂) where
+      pub step-line-put-in : d ≤ length t₀ → t₃ ≡ placed a (step-line n (record { ipr = record { ring = r; segment = s; word = w }; pointers = k })) t₀
+      step-line-put-in h =
+          let z : length t₁ ≡ length t₀ = ap length p₁ ∙ length-placed a (ended n 32) t₀ (omega arith) in
+          put-after a b d (ended n 32) (spaced-pointer r s w ++ ended k 10) t₀ t₁ t₃ p₁ q₁
+          (put-after b c d (spaced-pointer r s w) (ended k 10) t₁ t₂ t₃ p₂ q₂ p₃ q₃ (omega arith))
+          pointer-next h
+          ∙ ap (λ bs. placed a bs t₀) step-line-parts
 
-pub ruleset number-laws = (next-after-number, number-put)
-
-module _ (v a y : ℕ) (t : List ℕ) where
-  pub after-one-digit-within : (x : ℕ) → a + 2 ≤ length t → a + 1 < length (set t a x)
-  after-one-digit-within x h = omega (arith, length-set t a x)
-
-  pub next-after-one-digit : v ≤ 9 → a + 2 ≡ a + length (ended v y)
-  next-after-one-digit l = omega (arith, length-append (decimal v) (y ∷ []), ap length (decimal-digit v (omega arith)))
-
-  pub one-digit-put : v ≤ 9 → a + 2 ≤ length t → set (set t a (48 + v)) (a + 1) y ≡ placed a (ended v y) t
-  one-digit-put l h =
-      let d : decimal v ≡ (48 + v) ∷ [] = decimal-digit v (omega arith) in
-      let u : List ℕ = set t a (48 + v) in
-      let p : u ≡ placed a (decimal v) t = sym (placed-byte a (48 + v) t (omega arith)) ∙ ap (λ bs. placed a bs t) (sym d) in
-      let q : a + 1 ≡ a + length (decimal v) = omega (arith, ap length d) in
-      put-after a (a + 1) (a + 2) (decimal v) (y ∷ []) t u (set u (a + 1) y) p q (sym (placed-byte (a + 1) y u (after-one-digit-within (48 + v) h))) (omega arith) h
-
-pub ruleset one-digit-laws = (after-one-digit-within, next-after-one-digit, one-digit-put)
-
-module _ (v a b y : ℕ) (least : 10 ≤ v) (most : v < 100) (q : b ≡ a + length (ended (v / 10) (48 + v % 10))) where
-  two-digits : ended (v / 10) (48 + v % 10) ≡ decimal v
-  two-digits = sym (decimal-last v least (omega arith))
-
-  two-digits-long : b ≡ a + length (decimal v)
-  two-digits-long = q ∙ ap (λ bs. a + length bs) two-digits
-
-  pub next-after-two-digits : b + 1 ≡ a + length (ended v y)
-  next-after-two-digits = next-after-number v a b y two-digits-long
-
-  pub two-digits-put : (t u : List ℕ) → u ≡ placed a (ended (v / 10) (48 + v % 10)) t → b ≤ a + 2 → a + 11 ≤ length t → set u b y ≡ placed a (ended v y) t
-  two-digits-put t u p l h = number-put v a b y t u (p ∙ ap (λ bs. placed a bs t) two-digits) two-digits-long (omega arith) h
-
-pub ruleset two-digits-laws = (next-after-two-digits, two-digits-put)
-
--- a pointer: its words, and the end of its line
-module _ (r s w a b c d : ℕ) (t₀ t₁ t₂ t₃ : List ℕ)
-    (p₁ : t₁ ≡ placed a (ended r 32) t₀) (q₁ : b ≡ a + length (ended r 32)) (l₁ : b ≤ a + 2)
-    (p₂ : t₂ ≡ placed b (ended s 32) t₁) (q₂ : c ≡ b + length (ended s 32)) (l₂ : c ≤ b + 11)
-    (p₃ : t₃ ≡ placed c (ended w 10) t₂) (q₃ : d ≡ c + length (ended w 10)) (l₃ : d ≤ c + 11) where
-  segment-next : d ≡ b + length (ended s 32 ++ ended w 10)
-  segment-next = next-after b c d (ended s 32) (ended w 10) q₂ q₃
-
-  pub next-after-pointer : d ≡ a + length (words r s w)
-  unfolding line ascii
-  next-after-pointer = next-after a b d (ended r 32) (ended s 32 ++ ended w 10) q₁ segment-next
-
-  pub pointer-put : a + 24 ≤ length t₀ → t₃ ≡ placed a (words r s w) t₀
-  unfolding line ascii
-  pointer-put h =
-      let z : length t₁ ≡ length t₀ = ap length p₁ ∙ length-placed a (ended r 32) t₀ (omega arith) in
-      put-after a b d (ended r 32) (ended s 32 ++ ended w 10) t₀ t₁ t₃ p₁ q₁
-      (put-after b c d (ended s 32) (ended w 10) t₁ t₂ t₃ p₂ q₂ p₃ q₃ (omega arith))
-      segment-next (omega arith)
-
-pub ruleset pointer-laws = (next-after-pointer, pointer-put)
-
--- a step's line: its number, and a pointer
-module _ (n r s w a b c : ℕ) (q₁ : b ≡ a + length (ended n 32)) (q₂ : c ≡ b + length (words r s w)) where
-  pub next-after-step-line : c ≡ a + length (step-line n (record { ring = r; segment = s; word = w }))
-  unfolding step-line line ascii
-  next-after-step-line = next-after a b c (ended n 32) (words r s w) q₁ q₂
-
-  module _ (t u v : List ℕ) (p₁ : u ≡ placed a (ended n 32) t) (p₂ : v ≡ placed b (words r s w) u) where
-    pub step-line-put-in : c ≤ length t → v ≡ placed a (step-line n (record { ring = r; segment = s; word = w })) t
-    unfolding step-line line ascii
-    step-line-put-in h = put-after a b c (ended n 32) (words r s w) t u v p₁ q₁ p₂ q₂ h
-
-    pub step-line-put : b ≤ a + 2 → c ≤ b + 24 → a + 26 ≤ length t → v ≡ placed a (step-line n (record { ring = r; segment = s; word = w })) t
-    step-line-put l m h = step-line-put-in (omega arith)
+      pub step-line-put : b ≤ a + 2 → c ≤ b + 14 → d ≤ c + 6 → a + 27 ≤ length t₀
+          → t₃ ≡ placed a (step-line n (record { ipr = record { ring = r; segment = s; word = w }; pointers = k })) t₀
+      step-line-put l m o h = step-line-put-in (omega arith)
 
 -- how long it is: its numbers, and the byte after each
-pub length-of-step-line : (n : ℕ) (p : Words.Pointer) →
-    length (step-line n p) ≡ length (decimal n) + length (decimal (p .ring)) + length (decimal (p .segment)) + length (decimal (p .word)) + 4
+pub length-of-step-line : (n : ℕ) (x : Traced) →
+    length (step-line n x)
+    ≡ length (decimal n) + length (decimal (x .ipr .ring)) + length (decimal (x .ipr .segment)) + length (decimal (x .ipr .word)) + length (decimal (x .pointers)) + 5
 unfolding step-line line ascii
-length-of-step-line n p =
-    let r₁ : List ℕ = ended (p .segment) 32 ++ ended (p .word) 10 in
-    let r₂ : List ℕ = ended (p .ring) 32 ++ r₁ in
+length-of-step-line n x =
+    let r₁ : List ℕ = ended (x .ipr .word) 32 ++ ended (x .pointers) 10 in
+    let r₂ : List ℕ = ended (x .ipr .segment) 32 ++ r₁ in
+    let r₃ : List ℕ = ended (x .ipr .ring) 32 ++ r₂ in
     omega (
       arith,
-      length-append (ended n 32) r₂,
-      length-append (ended (p .ring) 32) r₁,
-      length-append (ended (p .segment) 32) (ended (p .word) 10),
+      length-append (ended n 32) r₃,
+      length-append (ended (x .ipr .ring) 32) r₂,
+      length-append (ended (x .ipr .segment) 32) r₁,
+      length-append (ended (x .ipr .word) 32) (ended (x .pointers) 10),
       length-append (decimal n) (32 ∷ []),
-      length-append (decimal (p .ring)) (32 ∷ []),
-      length-append (decimal (p .segment)) (32 ∷ []),
-      length-append (decimal (p .word)) (10 ∷ []),
+      length-append (decimal (x .ipr .ring)) (32 ∷ []),
+      length-append (decimal (x .ipr .segment)) (32 ∷ []),
+      length-append (decimal (x .ipr .word)) (32 ∷ []),
+      length-append (decimal (x .pointers)) (10 ∷ []),
     )
 
 pub ruleset step-line-laws = (next-after-step-line, step-line-put)

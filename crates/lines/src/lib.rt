@@ -1,15 +1,15 @@
-// The lines of a listing.
+// The line of a completed step.
 ghost use mathlib.Core.Path.{_≡_};
-ghost use mathlib.Core.List.{[], _∷_, _++_};
 ghost use Prim.Native.Nat.{_≤_, _<_, _+_};
 ghost use lib.ListN.{length, take};
-ghost use Rattle.model.specs.Listing.{decimal, line, step-line, last-line};
-ghost use Rattle.model.specs.Run.{fault};
+ghost use Rattle.model.specs.Listing.{step-line};
 ghost use Rattle.words.specs.View.{as-pointer, Pointer-within};
-ghost use Rattle.run.specs.Run.{as-reply, Reply-within};
 ghost use Rattle.text.specs.Text.{placed, Put};
 ghost use Rattle.lines.specs.Kept.{Kept};
-use run::Reply;
+use parts::put_bytes;
+use parts::put_digit;
+use parts::put_pointer;
+use parts::put_short;
 use words::pointer::Pointer;
 
 // A step's number, its last digit, and how many digits stand before that.
@@ -17,65 +17,6 @@ pub struct Number {
     pub value: u32,
     pub ones: u64,
     pub width: usize,
-}
-
-// A number, and the byte that ends it.
-fn put_number(text: &mut [u8], at: usize, v: u32, after: u8) -> usize
-    requires { ⌜ at + 11 ≤ length (now text) ⌝ }
-    ensures { λ r. ⌜ Put 11 at (decimal v ++ after ∷ []) (now (text .entry)) (now (text .exit)) r ⌝ }
-{
-    let end = text::put_decimal(text, at, v);
-    text[end] = after;
-    end + 1
-}
-
-// A number of one digit, and the byte that ends it.
-fn put_digit(text: &mut [u8], at: usize, v: u64, after: u8) -> usize
-    requires { ⌜ (at + 2 ≤ length (now text)) × (v ≤ 9) ⌝ }
-    ensures { λ r. ⌜ Put 2 at (decimal v ++ after ∷ []) (now (text .entry)) (now (text .exit)) r ⌝ }
-{
-    text[at] = (48 + v) as u8;
-    text[at + 1] = after;
-    at + 2
-}
-
-// A number of a pointer, and the byte that ends it. Most have one digit or two, which are put directly.
-fn put_short(text: &mut [u8], at: usize, v: u64, after: u8) -> usize
-    requires { ⌜ (at + 11 ≤ length (now text)) × (v < 65536) ⌝ }
-    ensures { λ r. ⌜ Put 11 at (decimal v ++ after ∷ []) (now (text .entry)) (now (text .exit)) r ⌝ }
-{
-    if v < 10 {
-        return put_digit(text, at, v, after);
-    }
-    if v < 100 {
-        let end = put_digit(text, at, v / 10, (48 + v % 10) as u8);
-        text[end] = after;
-        return end + 1;
-    }
-    put_number(text, at, v as u32, after)
-}
-
-// A pointer, with which a line ends.
-fn put_pointer(text: &mut [u8], at: usize, ring: u64, segment: u64, word: u64) -> usize
-    requires { ⌜ (at + 24 ≤ length (now text)) × (ring ≤ 7) × (segment ≤ 4095) × (word < 65536) ⌝ }
-    ensures { λ r. ⌜ Put 24 at (line (decimal ring ∷ decimal segment ∷ decimal word ∷ [])) (now (text .entry)) (now (text .exit)) r ⌝ }
-{
-    let at_segment = put_digit(text, at, ring, 32);
-    let at_word = put_short(text, at_segment, segment, 32);
-    put_short(text, at_word, word, 10)
-}
-
-// Bytes as they are.
-fn put_bytes(text: &mut [u8], at: usize, bytes: &[u8]) -> usize
-    requires { ⌜ at + length (now bytes) ≤ length (now text) ⌝ }
-    ensures { λ r. ⌜ (now (text .exit) ≡ placed at (now (bytes .entry)) (now (text .entry))) × (r ≡ at + length (now (bytes .entry))) ⌝ }
-{
-    let mut i = 0;
-    while i < bytes.len() {
-        text[at + i] = bytes[i];
-        i += 1;
-    }
-    at + i
 }
 
 // A step's number, and into `tens` its digits without the last.
@@ -114,7 +55,7 @@ pub fn next(tens: &mut [u8; 10], n: Number) -> Number
 }
 
 // The digits of a number without the last, and up to eight bytes more: eight at once are put sooner than some of them, and
-// the rest of the line, at least eight bytes, covers those too many. The answer is how many are put.
+// the rest of the line, at least ten bytes, covers those too many. The answer is how many are put.
 fn put_tens(text: &mut [u8], at: usize, tens: &[u8; 10], width: usize) -> usize
     requires { ⌜ (at + 10 ≤ length (now text)) × (width ≤ 9) ⌝ }
     ensures { λ r. ⌜ (now (text .exit) ≡ placed at (take r (now (tens .entry))) (now (text .entry))) × (width ≤ r) × (r ≤ width + 8) × (r ≤ length (now (tens .entry))) ⌝ }
@@ -129,51 +70,27 @@ fn put_tens(text: &mut [u8], at: usize, tens: &[u8; 10], width: usize) -> usize
 }
 
 // A step's line from the last digit of its number on, which is the line of a step of that number.
-fn put_last_digit(text: &mut [u8], at: usize, ones: u64, p: Pointer) -> usize
-    requires { ⌜ (at + 26 ≤ length (now text)) × (ones ≤ 9) × Pointer-within p ⌝ }
-    ensures { λ r. ⌜ Put 26 at (step-line ones (as-pointer p)) (now (text .entry)) (now (text .exit)) r ⌝ }
+fn put_last_digit(text: &mut [u8], at: usize, ones: u64, p: Pointer, pointers: u64) -> usize
+    requires { ⌜ (at + 27 ≤ length (now text)) × (ones ≤ 9) × Pointer-within p × (pointers ≤ 64) ⌝ }
+    ensures { λ r. ⌜ Put 22 at (step-line ones (record { ipr = as-pointer p; pointers = pointers })) (now (text .entry)) (now (text .exit)) r ⌝ }
 {
     let at_ring = put_digit(text, at, ones, 32);
-    put_pointer(text, at_ring, p.ring, p.segment.0, p.word.0)
+    let at_count = put_pointer(text, at_ring, p.ring, p.segment.0, p.word.0);
+    put_short(text, at_count, pointers, 10)
 }
 
-// A completed step's number, and IPR after it.
-pub fn put_step_line(text: &mut [u8], at: usize, tens: &[u8; 10], n: Number, p: Pointer) -> usize
-    requires { ⌜ (at + 64 ≤ length (now text)) × Kept (now tens) n × Pointer-within p ⌝ }
-    ensures { λ r. ⌜ Put 64 at (step-line (n .value) (as-pointer p)) (now (text .entry)) (now (text .exit)) r ⌝ }
+// A completed step's number, IPR after it, and how many pointer words it read.
+pub fn put_step_line(
+    text: &mut [u8],
+    at: usize,
+    tens: &[u8; 10],
+    n: Number,
+    p: Pointer,
+    pointers: u64,
+) -> usize
+    requires { ⌜ (at + 64 ≤ length (now text)) × Kept (now tens) n × Pointer-within p × (pointers ≤ 64) ⌝ }
+    ensures { λ r. ⌜ Put 64 at (step-line (n .value) (record { ipr = as-pointer p; pointers = pointers })) (now (text .entry)) (now (text .exit)) r ⌝ }
 {
     put_tens(text, at, tens, n.width);
-    put_last_digit(text, at + n.width, n.ones, p)
-}
-
-// A name with a space after it, a number, and the byte that ends it.
-fn put_named(text: &mut [u8], at: usize, name: &[u8], v: u32, after: u8) -> usize
-    requires { ⌜ (at + 19 ≤ length (now text)) × (length (now name) ≤ 8) ⌝ }
-    ensures { λ r. ⌜ Put 19 at (now (name .entry) ++ (decimal v ++ after ∷ [])) (now (text .entry)) (now (text .exit)) r ⌝ }
-{
-    let at_number = put_bytes(text, at, name);
-    put_number(text, at_number, v, after)
-}
-
-// A fault's number, the count of completed steps, and the pointer that faulted.
-fn put_fault_line(text: &mut [u8], at: usize, n: u8, count: u32, t: Pointer) -> usize
-    requires { ⌜ (at + 64 ≤ length (now text)) × Pointer-within t ⌝ }
-    ensures { λ r. ⌜ Put 64 at (last-line (fault n count (as-pointer t))) (now (text .entry)) (now (text .exit)) r ⌝ }
-{
-    let at_count = put_named(text, at, b"fault ", n as u32, 32);
-    let at_ring = put_number(text, at_count, count, 32);
-    put_pointer(text, at_ring, t.ring, t.segment.0, t.word.0)
-}
-
-// The reply of a run, which ends its listing.
-pub fn put_last_line(text: &mut [u8], at: usize, reply: Reply) -> usize
-    requires { ⌜ (at + 64 ≤ length (now text)) × Reply-within reply ⌝ }
-    ensures { λ r. ⌜ Put 64 at (last-line (as-reply reply)) (now (text .entry)) (now (text .exit)) r ⌝ }
-{
-    match reply {
-        Reply::Refused(n) => put_named(text, at, b"refused ", n as u32, 10),
-        Reply::Spent(count) => put_named(text, at, b"spent ", count, 10),
-        Reply::Halted(count) => put_named(text, at, b"halted ", count, 10),
-        Reply::Fault(n, count, t) => put_fault_line(text, at, n, count, t),
-    }
+    put_last_digit(text, at + n.width, n.ones, p, pointers)
 }

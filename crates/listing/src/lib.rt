@@ -3,11 +3,11 @@ ghost use mathlib.Core.Path.{_≡_};
 ghost use Prim.Native.Nat.{_+_, _*_, _≤_, _<_, min};
 ghost use lib.ListN.{length};
 ghost use Rattle.model.specs.Questions.{start-questions};
-ghost use Rattle.segments.specs.View.{as-machine};
+ghost use Rattle.state.specs.View.{as-machine};
 ghost use Rattle.listing.specs.Lines.{Lines-written, Whole-listing};
 use chunks::Line;
 use run::Reply;
-use segments::state::Core;
+use state::Core;
 
 fn smaller(x: usize, y: usize) -> usize
     ensures { λ r. ⌜ r ≡ min x y ⌝ }
@@ -29,22 +29,24 @@ pub struct Listed {
     pub count: u32,
 }
 
-// The lines of a run that goes on after `count` steps, until it ends or the text is full.
+// The lines of a run that goes on after `count` steps, which read `total` pointer words, until it ends or the text is full.
 pub fn list(
     core: Core,
     prs: &mut [u16; 24],
     memory: &mut [u64],
     count: u32,
+    total: u64,
     budget: u32,
     text: &mut [u8],
 ) -> Listed
-    requires { ⌜ (start-questions (as-machine core (now prs) (now memory)) ≡ 0) × (count ≤ budget) ⌝ }
-    ensures { λ x. ⌜ Lines-written (as-machine core (now (prs .entry)) (now (memory .entry))) count budget (now (text .entry)) x (as-machine (x .line .core) (now (prs .exit)) (now (memory .exit))) (now (text .exit)) ⌝ }
+    requires { ⌜ (start-questions (as-machine core (now prs) (now memory)) ≡ 0) × (count ≤ budget) × (total ≤ 64 * count) ⌝ }
+    ensures { λ x. ⌜ Lines-written (as-machine core (now (prs .entry)) (now (memory .entry))) count total budget (now (text .entry)) x (as-machine (x .line .core) (now (prs .exit)) (now (memory .exit))) (now (text .exit)) ⌝ }
 {
     let mut x = Line {
         core,
         length: 0,
         is_last: false,
+        total,
     };
     let mut done = count;
     while done < budget {
@@ -57,7 +59,7 @@ pub fn list(
             };
         }
         let steps = chunk_of(budget - done, room);
-        x = chunks::list_chunk(x.core, prs, memory, done, steps, text, length);
+        x = chunks::list_chunk(x.core, prs, memory, done, x.total, steps, text, length);
         if x.is_last {
             return Listed {
                 line: x,
@@ -68,7 +70,7 @@ pub fn list(
     }
     let length = x.length;
     if 64 <= text.len() - length {
-        x.length = lines::put_last_line(text, length, Reply::Spent(done));
+        x.length = endings::put_last_line(text, length, Reply::Spent(done), x.total);
         x.is_last = true;
     }
     Listed {
@@ -89,6 +91,6 @@ pub fn list_whole(
     ensures { λ r. ⌜ Whole-listing budget (as-machine core prs (now (memory .entry))) (now (text .entry)) r (now (text .exit)) ⌝ }
 {
     let mut own = prs;
-    let x = list(core, &mut own, memory, 0, budget, text);
+    let x = list(core, &mut own, memory, 0, 0, budget, text);
     x.line.length
 }

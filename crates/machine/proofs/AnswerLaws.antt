@@ -1,94 +1,35 @@
--- A run's answer as numbers: each reply's, and the whole, refused or run. Assumes nothing.
-use mathlib.Core.Path.{_≡_, refl, sym, _∙_, ap, subst}
+-- The whole answer, refused or run, with its pointer words. Assumes nothing.
+use mathlib.Core.Path.{_≡_, refl, sym, _∙_, ap, ap₂, subst}
+use mathlib.Core.Bool.{Bool, true, false, cond}
 use mathlib.Core.List.{List}
-use Prim.Native.Nat.{ℕ, zero, suc, _+_, _≤_}
+use Prim.Native.Nat.{ℕ, zero, suc, _+_, _^_, _≤_, _<_}
 use native.Mathlib.Omega.{arith}
 use lib.Dec.{leb}
 use lib.ListN.{length, take}
-use borrow.Author.Tests.{leb-true, ne-eqb}
+use borrow.Author.Tests.{leb-true}
 use Rattle.model.specs.Registers.{Machine}
-use Rattle.model.specs.Answers.{Numbers, numbers, reply-numbers}
+use Rattle.model.specs.Answers.{Numbers, reply-numbers}
 use Rattle.model.specs.Questions.{all, pointer-in-range, registers-in-range, dbr-fits, start-questions}
 use Rattle.model.specs.Run as Run
-use Rattle.model.specs.Run.{ran, run-from, run}
+use Rattle.model.specs.Run.{ran, run-from, run, total, total-of, fault-count}
 use Rattle.model.proofs.BranchLaws.{and-left, and-right}
 use Rattle.model.proofs.QuestionLaws.{ask-yes}
-use Rattle.model.proofs.RunLaws.{run-refused, run-goes}
-use Rattle.words.specs.View.{as-pointer, Pointer-within}
-use Rattle.words.specs.declared.pointer.Pointer.{Pointer}
-use Rattle.segments.specs.View.{as-pointers, as-machine}
-use Rattle.segments.specs.declared.state.Core.{Core}
+use Rattle.model.proofs.RunLaws.{run-refused, run-goes, trace-refused, trace-goes}
+use Rattle.model.proofs.TickLaws.{fault-count-goes, fault-count-refused, fault-count-within}
+use Rattle.model.proofs.CountLaws.{run-counts}
+use Rattle.model.proofs.CountedLaws.{total-within}
+use Rattle.words.specs.View.{as-pointer}
+use Rattle.state.specs.View.{as-pointers, as-machine}
+use Rattle.state.specs.declared.Core.{Core}
 use Rattle.host.specs.Record.{In-record}
-use Rattle.run.specs.Run.{as-reply, Reply-within, completed, noted-pointers, Ran-as, Traced}
+use Rattle.run.specs.Run.{as-reply, noted-steps, Ran-as, Traced, Counted}
 use Rattle.run.specs.declared.Ran.{Ran}
-use Rattle.run.specs.declared.Reply.{Reply}
 use Rattle.run.specs.declared.Reply.the-variants as Reply
 use Rattle.run.proofs.RunLaws.{ipr-passing}
-use Rattle.machine.specs.Answered.{Answer-fits, Answers-with, Answered-as, reply-in, Replies}
-use Rattle.machine.specs.declared.Answered.{Answered}
-
--- A REPLY AS NUMBERS
-abbrev nowhere : Pointer
-nowhere = record { ring = 0; segment = record { 0 = 0 }; word = record { 0 = 0 } }
-
-nowhere-within : Pointer-within nowhere
-nowhere-within = record { ring-within = omega arith; segment-within = omega arith; word-within = omega arith }
-
-module _ (r : Reply) (c : Core) (p : Pointer) where
-  pub refused-answered : (n : ℕ) → r ≡ Reply.Refused n → n ≤ 255 → p ≡ nowhere → Answers-with r c (record { kind = 0; core = c; number = n; pointer = p; count = 0 })
-  unfolding reply-numbers numbers
-  refused-answered n e h f =
-      rw (e, f) (record { numbers-same = refl; core-same = refl; fits = record { kind-fits = omega arith; number-fits = h; count-fits = omega arith; pointer-fits = nowhere-within } })
-
-  pub spent-answered : (n : ℕ) → r ≡ Reply.Spent n → n ≤ 4294967295 → p ≡ nowhere → Answers-with r c (record { kind = 1; core = c; number = 0; pointer = p; count = n })
-  unfolding reply-numbers numbers
-  spent-answered n e h f =
-      rw (e, f) (record { numbers-same = refl; core-same = refl; fits = record { kind-fits = omega arith; number-fits = omega arith; count-fits = h; pointer-fits = nowhere-within } })
-
-  pub halted-answered : (n : ℕ) → r ≡ Reply.Halted n → n ≤ 4294967295 → p ≡ nowhere → Answers-with r c (record { kind = 2; core = c; number = 0; pointer = p; count = n })
-  unfolding reply-numbers numbers
-  halted-answered n e h f =
-      rw (e, f) (record { numbers-same = refl; core-same = refl; fits = record { kind-fits = omega arith; number-fits = omega arith; count-fits = h; pointer-fits = nowhere-within } })
-
-pub fault-answered : (r : Reply) (c : Core) (i n : ℕ) (t : Pointer) → Reply-within r → r ≡ Reply.Fault i n t → i ≤ 255 → n ≤ 4294967295 →
-    Answers-with r c (record { kind = 3; core = c; number = i; pointer = t; count = n })
-unfolding reply-numbers numbers
-fault-answered r c i n t w e h k =
-    let within : Pointer-within t = subst Reply-within e w in
-    rw e (record { numbers-same = refl; core-same = refl; fits = record { kind-fits = omega arith; number-fits = h; count-fits = k; pointer-fits = within } })
-
--- NUMBERS AS A REPLY
-pub reply-of-numbers : (r : Run.Reply) → reply-in (reply-numbers r) ≡ r
-unfolding reply-in reply-numbers numbers
-reply-of-numbers (Run.Reply.refused n) = refl
-reply-of-numbers (Run.Reply.spent c) = refl
-reply-of-numbers (Run.Reply.halted c) = refl
-reply-of-numbers (Run.Reply.fault n c p) = refl
-
-module _ (x : Answered) (k : ℕ) (e : k ≡ x .kind) where
-  pub replies-refused : k ≡ 0 → Replies x (Reply.Refused (x .number))
-  unfolding reply-in
-  replies-refused h = record { same = rw (← e, h); within = tt }
-
-  pub replies-spent : k ≡ 1 → Replies x (Reply.Spent (x .count))
-  unfolding reply-in
-  replies-spent h = record { same = rw (← e, h); within = tt }
-
-  pub replies-halted : k ≡ 2 → Replies x (Reply.Halted (x .count))
-  unfolding reply-in
-  replies-halted h = record { same = rw (← e, h); within = tt }
-
-  pub replies-fault : (k ≡ 0 → ⊥) → (k ≡ 1 → ⊥) → (k ≡ 2 → ⊥) → Answer-fits x → Replies x (Reply.Fault (x .number) (x .count) (x .pointer))
-  unfolding reply-in
-  replies-fault h i j f = record { same = rw (← e, ne-eqb k 0 h, ne-eqb k 1 i, ne-eqb k 2 j); within = f .pointer-fits }
-
--- THE WHOLE
-pub count-completed : (r : Reply) → reply-numbers (as-reply r) .count ≡ completed r
-unfolding reply-numbers numbers
-count-completed (Reply.Refused n) = refl
-count-completed (Reply.Spent c) = refl
-count-completed (Reply.Halted c) = refl
-count-completed (Reply.Fault n c t) = refl
+use Rattle.answers.specs.Answer.{Answers-with}
+use Rattle.answers.specs.declared.Answered.{Answered}
+use Rattle.answers.proofs.AnswerLaws.{count-completed}
+use Rattle.machine.specs.Answered.{pointers-read, Answered-as}
 
 passing-in-record : (c : Core) (prs m : List ℕ) → start-questions (as-machine c prs m) ≡ 0 → In-record c
 unfolding start-questions registers-in-range dbr-fits
@@ -107,8 +48,42 @@ passing-in-record c prs m e =
       length-fits = omega arith;
     }
 
-module _ (b : ℕ) (c : Core) (prs memory trace : List ℕ) (n : ℕ) (e : n ≡ start-questions (as-machine c prs memory)) (x : Answered) where
-  pub refused-whole : (n ≡ 0 → ⊥) → Answers-with (Reply.Refused n) c x → Answered-as b c prs memory trace x prs memory trace
+-- POINTER WORDS as a single step or as a run
+module _ (single : Bool) (t l : ℕ) where
+  pub counted-single : single ≡ true → t + l ≡ cond single (t + l) t
+  counted-single e = rw e
+
+  pub counted-run : single ≡ false → t ≡ cond single (t + l) t
+  counted-run e = rw e
+
+pub ruleset counts = (counted-single, counted-run)
+
+-- a refused run reads none
+none-read : (single : Bool) (b n : ℕ) (m : Machine) → n ≡ start-questions m → (n ≡ 0 → ⊥) → 0 ≡ pointers-read single b m
+unfolding total total-of
+none-read single b zero m e f = absurd (f refl)
+none-read single b (suc n) m e f = by-kind single (ap total-of (trace-refused b n m (sym e))) (fault-count-refused b n m (sym e))
+  where
+    by-kind : (s : Bool) → total b m ≡ 0 → fault-count b m ≡ 0 → 0 ≡ pointers-read s b m
+    by-kind true g h = omega (arith, g, h)
+    by-kind false g h = sym g
+
+module _ (b : ℕ) (m : Machine) (e : start-questions m ≡ 0) (y : Ran) (k : Counted b m y) where
+  total-here : y .total ≡ total b m
+  unfolding total
+  total-here = k .total-same ∙ ap total-of (sym (trace-goes b m e))
+
+  last-here : y .last ≡ fault-count b m
+  last-here = k .last-same ∙ sym (fault-count-goes b m e)
+
+  pub sum-fits : b ≤ 4294967295 → y .total + y .last < 2 ^ 64
+  sum-fits h = omega (arith, total-within b m, run-counts b m .0, fault-count-within b m, total-here, last-here)
+
+  some-read : (single : Bool) (r : ℕ) → r ≡ cond single (y .total + y .last) (y .total) → r ≡ pointers-read single b m
+  some-read single r f = f ∙ ap₂ (λ t l. cond single (t + l) t) total-here last-here
+
+module _ (single : Bool) (b : ℕ) (c : Core) (prs memory trace : List ℕ) (n : ℕ) (e : n ≡ start-questions (as-machine c prs memory)) (x : Answered) where
+  pub refused-whole : (n ≡ 0 → ⊥) → Answers-with (Reply.Refused n) c 0 x → Answered-as single b c prs memory trace x prs memory trace
   unfolding ran
   refused-whole h a =
       record {
@@ -119,6 +94,7 @@ module _ (b : ℕ) (c : Core) (prs memory trace : List ℕ) (n : ℕ) (e : n ≡
         passes = λ z. absurd (h (e ∙ z));
         trace-size = refl;
         traced = λ z. absurd (h (e ∙ z));
+        pointers-same = a .pointers-same ∙ none-read single b n (as-machine c prs memory) e h;
       }
     where
       by-number : (m : Machine) (n : ℕ) → n ≡ start-questions m → (n ≡ 0 → ⊥) → run b m ≡ ran (Run.Reply.refused n) m
@@ -129,9 +105,10 @@ module _ (b : ℕ) (c : Core) (prs memory trace : List ℕ) (n : ℕ) (e : n ≡
       refuses = by-number (as-machine c prs memory) n e h
 
   pub run-whole : n ≡ 0 → (y : Ran) (prs-now memory-now trace-now : List ℕ) → Ran-as (run-from b 0 (as-machine c prs memory)) y (as-machine (y .core) prs-now memory-now) →
-      Traced b (as-machine c prs memory) y trace trace-now → Answers-with (y .reply) (y .core) x → Answered-as b c prs memory trace x prs-now memory-now trace-now
+      Traced b (as-machine c prs memory) y trace trace-now → Counted b (as-machine c prs memory) y → (r : ℕ) → r ≡ cond single (y .total + y .last) (y .total) →
+      Answers-with (y .reply) (y .core) r x → Answered-as single b c prs memory trace x prs-now memory-now trace-now
   unfolding ran
-  run-whole z y prs-now memory-now trace-now r t a =
+  run-whole z y prs-now memory-now trace-now r t k i f a =
       let goes : run b (as-machine c prs memory) ≡ ran (as-reply (y .reply)) (as-machine (y .core) prs-now memory-now) = run-goes b (as-machine c prs memory) (sym e ∙ z) ∙ r .same in
       let again : start-questions (as-machine (x .core) prs-now memory-now) ≡ 0 = subst (λ d. start-questions (as-machine d prs-now memory-now) ≡ 0) (sym (a .core-same)) (r .passes) in
       record {
@@ -143,9 +120,6 @@ module _ (b : ℕ) (c : Core) (prs memory trace : List ℕ) (n : ℕ) (e : n ≡
         trace-size = t .size-same;
         traced =
             λ _ room.
-            ap (λ k. noted-pointers (take k trace-now)) (ap (λ (q : Numbers). q .count) (a .numbers-same) ∙ count-completed (y .reply)) ∙ t .traced room;
+            ap (λ k. noted-steps (take k trace-now)) (ap (λ (q : Numbers). q .count) (a .numbers-same) ∙ count-completed (y .reply)) ∙ t .traced room;
+        pointers-same = a .pointers-same ∙ some-read b (as-machine c prs memory) (sym e ∙ z) y k single i f;
       }
-
-pub ruleset replies = (refused-answered, spent-answered, halted-answered, fault-answered, replies-refused, replies-spent, replies-halted, replies-fault)
-
-pub ruleset wholes = (refused-whole, run-whole)

@@ -1,5 +1,6 @@
 -- 1 to 4 asked of a host's record by a run of no steps, which leaves the machine as it is. Assumes nothing.
 use mathlib.Core.Path.{_≡_, refl, sym, _∙_, ap, subst}
+use mathlib.Core.Bool.{false}
 use mathlib.Core.List.{List}
 use Prim.Native.Nat.{ℕ, zero, suc}
 use native.Mathlib.Omega.{arith}
@@ -10,12 +11,13 @@ use Rattle.model.specs.Questions.{start-questions}
 use Rattle.model.specs.Run as Run
 use Rattle.model.specs.Run.{ran, run-from, run}
 use Rattle.model.proofs.RunLaws.{run-refused, run-goes}
-use Rattle.segments.specs.View.{as-machine}
-use Rattle.segments.specs.declared.state.Core.{Core}
+use Rattle.state.specs.View.{as-machine}
+use Rattle.state.specs.declared.Core.{Core}
 use Rattle.host.specs.declared.record.Registers.{Registers}
 use Rattle.host.specs.Record.{machine-of, Converted}
-use Rattle.machine.specs.Answered.{as-numbers, Answered-as, Prepared-as}
-use Rattle.machine.specs.declared.Answered.{Answered}
+use Rattle.answers.specs.Answer.{as-numbers}
+use Rattle.answers.specs.declared.Answered.{Answered}
+use Rattle.machine.specs.Answered.{Answered-as, Prepared-as}
 use Rattle.machine.specs.declared.Prepared.{Prepared}
 
 -- the numbers that such a run answers, by what 1 to 4 answer
@@ -37,7 +39,7 @@ unfolding ran run-from
 left-alone m e = ap (λ (y : Run.Ran). y .machine) (run-goes 0 m e)
 
 module _ (r : Registers) (c : Core) (e : Converted r c) (memory trace : List ℕ) (x : Answered) (prs-now memory-now trace-now : List ℕ)
-    (w : Answered-as 0 c (r .prs) memory trace x prs-now memory-now trace-now) where
+    (w : Answered-as false 0 c (r .prs) memory trace x prs-now memory-now trace-now) where
   given : as-machine c (r .prs) memory ≡ machine-of r memory
   given = ap (λ (q : Model.Registers). record { registers = q; memory = memory }) (e .same)
 

@@ -1,74 +1,30 @@
 // 1 to 4, then a run: the host tests nothing first. Everything below is merged into this one function, the loop of steps with it.
+ghost use mathlib.Core.Bool.{cond};
 ghost use mathlib.Core.Path.{_≡_};
-ghost use Prim.Native.Nat.{_≤_};
-ghost use Rattle.run.specs.Run.{as-reply, Reply-within};
-ghost use Rattle.machine.specs.Answered.{core-of, Answers-with, Answered-as, Answer-fits, Replies, Prepared-as};
+ghost use Prim.Native.Nat.{_+_, _^_, _<_};
+ghost use Rattle.machine.specs.Answered.{core-of, Answered-as, Prepared-as};
+use answers::Answered;
+use answers::answer_of;
 use host::record::Registers;
 use run::Reply;
-use segments::state::Core;
 use segments::translate::Dbr;
+use state::Core;
 use words::pointer::Pointer;
 use words::pointer::SegmentNumber;
 use words::pointer::WordNumber;
 
-// An answer as numbers, and the core after it. Kinds: 0 refused, 1 spent or completed, 2 halted, 3 fault; what a kind leaves
-// free is 0. Numbers that C gets side by side stand apart here: else the compiler loads both at once where they were stored
-// one by one just before, and waits for it.
-pub struct Answered {
-    pub kind: u64,
-    pub core: Core,
-    pub number: u64,
-    pub pointer: Pointer,
-    pub count: u64,
-}
-
-fn no_pointer() -> Pointer
-    ensures { λ p. ⌜ p ≡ record { ring = 0; segment = record { 0 = 0 }; word = record { 0 = 0 } } ⌝ }
+// A single step that faults has its own pointer words; a run leaves out those of the step at which it faults.
+fn counted(single: bool, total: u64, last: u64) -> u64
+    requires { ⌜ total + last < 2 ^ 64 ⌝ }
+    ensures { λ r. ⌜ r ≡ cond single (total + last) total ⌝ }
 {
-    Pointer {
-        ring: 0,
-        segment: SegmentNumber(0),
-        word: WordNumber(0),
+    if single {
+        return total + last;
     }
+    total
 }
 
-fn answer_of(reply: Reply, core: Core) -> Answered
-    requires { ⌜ Reply-within reply ⌝ }
-    ensures { λ x. ⌜ Answers-with reply core x ⌝ }
-{
-    match reply {
-        Reply::Refused(n) => Answered {
-            kind: 0,
-            core,
-            number: n as u64,
-            pointer: no_pointer(),
-            count: 0,
-        },
-        Reply::Spent(count) => Answered {
-            kind: 1,
-            core,
-            number: 0,
-            pointer: no_pointer(),
-            count: count as u64,
-        },
-        Reply::Halted(count) => Answered {
-            kind: 2,
-            core,
-            number: 0,
-            pointer: no_pointer(),
-            count: count as u64,
-        },
-        Reply::Fault(n, count, t) => Answered {
-            kind: 3,
-            core,
-            number: n as u64,
-            pointer: t,
-            count: count as u64,
-        },
-    }
-}
-
-// A, DBR and IPR come one by one, the PRs where the host has them.
+// A, DBR and IPR come one by one, the PRs where the host has them. `single`: pointer words as a single step has them.
 pub fn run(
     a: u64,
     address: u64,
@@ -80,8 +36,9 @@ pub fn run(
     memory: &mut [u64],
     budget: u32,
     trace: &mut [u64],
+    single: bool,
 ) -> Answered
-    ensures { λ x. ⌜ Answered-as budget (core-of a address length ring segment word) (now (prs .entry)) (now (memory .entry)) (now (trace .entry)) x (now (prs .exit)) (now (memory .exit)) (now (trace .exit)) ⌝ }
+    ensures { λ x. ⌜ Answered-as single budget (core-of a address length ring segment word) (now (prs .entry)) (now (memory .entry)) (now (trace .entry)) x (now (prs .exit)) (now (memory .exit)) (now (trace .exit)) ⌝ }
 {
     let core = Core {
         a,
@@ -94,27 +51,12 @@ pub fn run(
     };
     let n = host::start::start_answer(core, prs, memory);
     if n != 0 {
-        return answer_of(Reply::Refused(n), core);
+        return answer_of(Reply::Refused(n), core, 0);
     }
     let y = run::run(core, prs, memory, budget, trace);
     let reply = y.reply;
     let after = y.core;
-    answer_of(reply, after)
-}
-
-// The reply that the numbers stand for.
-pub fn reply_of(x: Answered) -> Reply
-    requires { ⌜ Answer-fits x ⌝ }
-    ensures { λ r. ⌜ Replies x r ⌝ }
-{
-    let kind = x.kind;
-    let t = x.pointer;
-    match kind {
-        0 => Reply::Refused(x.number as u8),
-        1 => Reply::Spent(x.count as u32),
-        2 => Reply::Halted(x.count as u32),
-        _ => Reply::Fault(x.number as u8, x.count as u32, t),
-    }
+    answer_of(reply, after, counted(single, y.total, y.last))
 }
 
 // The number of the first no of 1 to 4, or 0; with 0 the core and its PRs are the record's.
@@ -142,6 +84,7 @@ pub fn prepare(registers: Registers, memory: &mut [u64]) -> Prepared
         memory,
         0,
         &mut none,
+        false,
     );
     let after = x.core;
     if x.kind == 0 {

@@ -1,7 +1,8 @@
 -- The thirteen cases and the readings of 01 hold of the definitions, by computation. Assumes nothing.
 use mathlib.Core.Path.{refl}
+use Rattle.model.specs.Run.{single-count}
 use Rattle.model.specs.Cases.{left-by, Holds, about-to-do, about-to, gated, through-pointer, returning, case-12-registers, case-12-words, case-12, pointers-up, through-pointers, case, thirteen, All-hold, Cases-hold}
-use Rattle.model.specs.Readings.{doing, with-descriptors, started, ended, stored-one, Readings}
+use Rattle.model.specs.Readings.{doing, through, with-descriptors, started, ended, stored-one, Readings}
 use Rattle.model.proofs.Computing.{by-computation}
 
 pub thirteen-cases-hold : Cases-hold thirteen
@@ -45,7 +46,7 @@ thirteen-cases-hold = (
 )
 
 pub readings-hold : Readings
-unfolding by-computation left-by Holds about-to-do about-to case-12-registers doing with-descriptors started ended stored-one
+unfolding by-computation single-count left-by Holds about-to-do about-to through-pointer case-12-registers pointers-up through-pointers doing through with-descriptors started ended stored-one
 readings-hold =
     record {
       empty-file-is-42 = refl;
@@ -84,5 +85,16 @@ readings-hold =
       HLT-above-ring-0-is-33 = refl;
       HLT-is-listed = refl;
       no-budget-is-spent = refl;
+      through-one-has-1 = refl;
+      through-64-has-64 = refl;
+      third-is-15 = refl;
+      third-unread-has-2 = refl;
+      across-segments-has-2 = refl;
+      fault-31-has-64 = refl;
+      target-is-23 = refl;
+      target-unwritten-has-1 = refl;
+      HLT-with-I-on-has-0 = refl;
+      totals-are-sums = refl;
+      faulting-step-is-not-in-the-total = refl;
       offset-goes-round = refl;
     }

@@ -22,5 +22,7 @@ pub mod OverwrittenLaws
 pub mod OnceLaws
 pub mod ConvertLaws
 pub mod ListingLaws
+pub mod TickLaws
+pub mod CountedLaws
 pub mod Computing
 pub mod CasesHold

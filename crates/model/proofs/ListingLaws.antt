@@ -4,9 +4,9 @@ use mathlib.Core.List.{List, [], _∷_, _++_, append-assoc}
 use Prim.Native.Nat.{ℕ, suc, _+_}
 use native.Mathlib.Omega.{arith}
 use lib.ListN.{length}
-use Rattle.model.specs.Words.{Pointer}
 use Rattle.model.specs.Registers.{Machine}
-use Rattle.model.specs.Run.{Reply, spent, Ran, ran, run, after, trace-from, trace}
+use Rattle.model.specs.Run.{Reply, spent, Ran, ran, run, after, Traced, traced, trace-from, trace, total-of, total}
+use Rattle.model.specs.Step.{pointer-words}
 use Rattle.model.specs.Answers.{numbers, reply-numbers}
 use Rattle.model.specs.Ends.{Steps, no-step, one-more, Ends, by-refusal, by-fault, by-halt, by-budget}
 use Rattle.model.specs.Listing.{step-line, step-lines, last-line, listing}
@@ -15,7 +15,7 @@ use Rattle.model.proofs.RunLaws.{trace-completes, trace-goes}
 use Rattle.model.proofs.EndsLaws.{run-ends}
 use Rattle.model.proofs.CountLaws.{steps-keep-passing}
 
-pub step-lines-append : (c : ℕ) (ps qs : List Pointer) → step-lines c (ps ++ qs) ≡ step-lines c ps ++ step-lines (c + length ps) qs
+pub step-lines-append : (c : ℕ) (ps qs : List Traced) → step-lines c (ps ++ qs) ≡ step-lines c ps ++ step-lines (c + length ps) qs
 unfolding step-lines
 step-lines-append c [] qs = ap (λ z. step-lines z qs) (omega arith)
 step-lines-append c (p ∷ ps) qs =
@@ -27,7 +27,7 @@ pub steps-trace : {j : ℕ} {m k : Machine} → Steps j m k → (b : ℕ) → tr
 unfolding trace-from
 steps-trace {m} no-step b = let e : 0 + b ≡ b = omega arith in ap (λ x. trace-from x m) e
 steps-trace {m} {k} (one-more {n = n} {l = l} e s) b =
-    ap (λ x. trace-from x m) (let z : suc n + b ≡ suc (n + b) = omega arith in z) ∙ trace-completes (n + b) m l e ∙ ap (λ t. l .registers .ipr ∷ t) (steps-trace s b)
+    ap (λ x. trace-from x m) (let z : suc n + b ≡ suc (n + b) = omega arith in z) ∙ trace-completes (n + b) m l e ∙ ap (λ t. traced l (pointer-words m) ∷ t) (steps-trace s b)
     ∙ ap (λ t. t ++ trace-from b k) (sym (trace-completes n m l e))
 
 steps-trace-length : {j : ℕ} {m k : Machine} → Steps j m k → length (trace-from j m) ≡ j
@@ -35,24 +35,30 @@ unfolding trace-from
 steps-trace-length no-step = refl
 steps-trace-length {m} (one-more {n = n} {l = l} e s) = ap length (trace-completes n m l e) ∙ ap suc (steps-trace-length s)
 
+pub total-append : (xs ys : List Traced) → total-of (xs ++ ys) ≡ total-of xs + total-of ys
+unfolding total-of
+total-append [] ys = omega arith
+total-append (x ∷ xs) ys = ap (λ n. x .pointers + n) (total-append xs ys) ∙ omega arith
+
 pub listing-is-lines : Listing-is-lines
-unfolding listing after ran reply-numbers numbers
+unfolding listing after ran reply-numbers numbers total
 listing-is-lines j k m e = by-ends (run-ends j m) e refl
   where
     kind-of : Reply → ℕ
     kind-of p = reply-numbers p .kind
 
-    last : List ℕ
-    last = last-line (run (j + k) m .reply)
+    last : ℕ → List ℕ
+    last n = last-line (run (j + k) m .reply) n
 
     by-ends : {x : Ran} → Ends j m x → x .reply ≡ spent j → x ≡ run j m →
-        step-lines 0 (trace (j + k) m) ++ last ≡ step-lines 0 (trace j m) ++ step-lines j (trace k (run j m .machine)) ++ last
+        step-lines 0 (trace (j + k) m) ++ last (total-of (trace (j + k) m))
+        ≡ step-lines 0 (trace j m) ++ step-lines j (trace k (run j m .machine)) ++ last (total-of (trace j m) + total-of (trace k (run j m .machine)))
     by-ends (by-refusal q) f same = absurd (let z = ap kind-of f in omega arith)
     by-ends (by-fault q s h g) f same = absurd (let z = ap kind-of f in omega arith)
     by-ends (by-halt q s h g) f same = absurd (let z = ap kind-of f in omega arith)
     by-ends (by-budget {k = l} q s) f same =
-        ap (λ t. step-lines 0 t ++ last) (trace-goes (j + k) m q ∙ steps-trace s k)
-        ∙ ap (λ t. t ++ last) (step-lines-append 0 (trace-from j m) (trace-from k l))
-        ∙ ap₂ (λ z t. step-lines 0 t ++ step-lines z (trace-from k l) ++ last) (omega (arith, steps-trace-length s)) (sym (trace-goes j m q))
-        ∙ ap (λ t. step-lines 0 (trace j m) ++ step-lines j t ++ last) (sym (trace-goes k l (steps-keep-passing s q)))
-        ∙ ap (λ (x : Ran). step-lines 0 (trace j m) ++ step-lines j (trace k (x .machine)) ++ last) same
+        ap (λ t. step-lines 0 t ++ last (total-of t)) (trace-goes (j + k) m q ∙ steps-trace s k)
+        ∙ ap₂ (λ t n. t ++ last n) (step-lines-append 0 (trace-from j m) (trace-from k l)) (total-append (trace-from j m) (trace-from k l))
+        ∙ ap₂ (λ z t. step-lines 0 t ++ step-lines z (trace-from k l) ++ last (total-of t + total-of (trace-from k l))) (omega (arith, steps-trace-length s)) (sym (trace-goes j m q))
+        ∙ ap (λ t. step-lines 0 (trace j m) ++ step-lines j t ++ last (total-of (trace j m) + total-of t)) (sym (trace-goes k l (steps-keep-passing s q)))
+        ∙ ap (λ (x : Ran). step-lines 0 (trace j m) ++ step-lines j (trace k (x .machine)) ++ last (total-of (trace j m) + total-of (trace k (x .machine)))) same

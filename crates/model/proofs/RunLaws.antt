@@ -6,8 +6,8 @@ use Rattle.model.specs.Words.{Pointer}
 use Rattle.model.specs.Registers.{Machine}
 use Rattle.model.specs.Questions.{start-questions}
 use Rattle.model.specs.Program.{Outcome, faults, completes, halts}
-use Rattle.model.specs.Step.{step}
-use Rattle.model.specs.Run.{refused, spent, halted, fault, Ran, ran, unless-refused, run-on, run-from, run, trace-on, trace-from, trace}
+use Rattle.model.specs.Step.{step, pointer-words}
+use Rattle.model.specs.Run.{refused, spent, halted, fault, Ran, ran, unless-refused, run-on, run-from, run, traced, trace-on, trace-from, trace}
 
 -- A STEP FAULTS, HALTS OR COMPLETES
 pub data Next (m : Machine) : Type 0 where
@@ -39,11 +39,11 @@ pub trace-faults : (b n : ℕ) (t : Pointer) (m : Machine) → step m ≡ faults
 unfolding trace-from trace-on
 trace-faults b n t m e = rw e
 
-pub trace-halts : (b : ℕ) (m k : Machine) → step m ≡ halts k → trace-from (suc b) m ≡ k .registers .ipr ∷ []
+pub trace-halts : (b : ℕ) (m k : Machine) → step m ≡ halts k → trace-from (suc b) m ≡ traced k (pointer-words m) ∷ []
 unfolding trace-from trace-on
 trace-halts b m k e = rw e
 
-pub trace-completes : (b : ℕ) (m k : Machine) → step m ≡ completes k → trace-from (suc b) m ≡ k .registers .ipr ∷ trace-from b k
+pub trace-completes : (b : ℕ) (m k : Machine) → step m ≡ completes k → trace-from (suc b) m ≡ traced k (pointer-words m) ∷ trace-from b k
 unfolding trace-from trace-on
 trace-completes b m k e = rw e
 

@@ -12,6 +12,7 @@ use Rattle.model.specs.Registers.{Registers, Machine, machine, pr, with-
 use Rattle.model.specs.Opcodes.{Opcode, LDA, STA, EAP, CALL, RETURN}
 use Rattle.model.specs.Program.{Outcome, faults, completes, halts}
 use Rattle.model.specs.Step.{step}
+use Rattle.model.specs.Run.{single-count}
 use Rattle.model.specs.Listing.{ascii, listing, image-text}
 use Rattle.model.specs.Convert.{convert}
 use Rattle.model.specs.Notation.{pointer, segment, literal, by-pr, indirect-by-pr, indirect-word, storing, image-of}
@@ -27,6 +28,8 @@ pub data Claim : Type 0 where
   pr-becomes : Machine → (number : ℕ) → Pointer → Claim
   a-becomes : Machine → ℕ → Claim
   word-becomes : Machine → (address value : ℕ) → Claim
+  -- a single step answers with so many pointer words, whether it completes or faults
+  step-counts : Machine → (pointers : ℕ) → Claim
   -- the run's listing, and the text of an image; a stored image is converted to this one, or gives this text
   run-lists : (budget : ℕ) → Machine → String → Claim
   image-prints : (bytes : List ℕ) → String → Claim
@@ -44,6 +47,7 @@ Holds (ipr-becomes m p) = left-by (λ k. k .registers .ipr) (step m) ≡ some p
 Holds (pr-becomes m n p) = left-by (λ k. pr (k .registers) n) (step m) ≡ some p
 Holds (a-becomes m v) = left-by (λ k. k .registers .a) (step m) ≡ some v
 Holds (word-becomes m x v) = left-by (λ k. getD (k .memory) x 0) (step m) ≡ some v
+Holds (step-counts m n) = single-count m ≡ n
 Holds (run-lists b m s) = listing b m ≡ ascii s
 Holds (image-prints bs s) = image-text bs ≡ ascii s
 Holds (image-converts bs new) = convert bs ≡ new
@@ -142,8 +146,8 @@ thirteen =
     ∷ pr-becomes returning 3 (pointer 6 0 0) ∷ [])
     -- a whole run, from its machine and from its image
     ∷ case 12
-    (run-lists 9 case-12 "1 4 4 1\n2 1 5 0\nfault 23 2 4 3 0\n"
-    ∷ image-prints (image-of 64 case-12-registers case-12-words 9) "1 4 4 1\n2 1 5 0\nfault 23 2 4 3 0\n" ∷ [])
+    (run-lists 9 case-12 "1 4 4 1 0\n2 1 5 0 0\nfault 23 2 4 3 0 0\n"
+    ∷ image-prints (image-of 64 case-12-registers case-12-words 9) "1 4 4 1 0\n2 1 5 0 0\nfault 23 2 4 3 0 0\n" ∷ [])
     -- 64 pointer words pass, a 65th gives 31
     ∷ case 13 (a-becomes (through-pointers 64) 5 ∷ step-faults (through-pointers 65) 31 (pointer 4 1 64) ∷ []) ∷ []
 

@@ -5,9 +5,8 @@ use mathlib.Core.Option.{Option, none, some}
 use Prim.Native.Nat.{ℕ, zero, suc}
 use lib.Dec.{ltb, leb, eqb}
 use lib.ListN.{length, take, drop}
-use Rattle.model.specs.Run.{refused}
 use Rattle.model.specs.Image.{Mark, ME, ST, WD, RN, mark-of, record-size, number-at, Loading, nothing-loaded, stored, Image, refused-image, loaded, image-after, stored-image}
-use Rattle.model.specs.Listing.{last-line}
+use Rattle.model.specs.Listing.{refusal-line}
 use Rattle.model.specs.Bench.{Called, call-refused, call-wrote}
 
 -- THE RECORDS at the front of some bytes, each as its own bytes. The bytes of a whole record with a known mark; else none
@@ -65,7 +64,7 @@ compacted bs = joined (last-of-each (records bs)) ++ left-over bs
 
 -- THE PROGRAM: the stored image is judged, then written. With `kept` the bytes whose records have been loaded, and those that come after them
 unfoldable pub convert-on : Image → (bytes : List ℕ) → List ℕ
-convert-on (refused-image n) bs = last-line (refused n)
+convert-on (refused-image n) bs = refusal-line n
 convert-on (loaded m b) bs = compacted bs
 
 unfoldable pub convert-after : Loading → (kept bytes : List ℕ) → List ℕ

@@ -4,9 +4,8 @@ use mathlib.Core.Bool.{false}
 use mathlib.Core.List.{List, [], _∷_}
 use Prim.Native.Nat.{ℕ}
 use Rattle.model.specs.Registers.{Machine}
-use Rattle.model.specs.Run.{refused}
 use Rattle.model.specs.Image.{refused-image, loaded, image, stored-image}
-use Rattle.model.specs.Listing.{last-line}
+use Rattle.model.specs.Listing.{refusal-line}
 use Rattle.model.specs.Convert.{records, left-over, superseded, some-writes, convert}
 
 -- some of the elements, in their order
@@ -34,7 +33,7 @@ Converted-loads = (bs : List ℕ) (m : Machine) (b : ℕ) → stored-image bs �
 
 -- one that they refuse gives only its number
 abbrev pub Refused-converts : Type 0
-Refused-converts = (bs : List ℕ) (n : ℕ) → stored-image bs ≡ refused-image n → convert bs ≡ last-line (refused n)
+Refused-converts = (bs : List ℕ) (n : ℕ) → stored-image bs ≡ refused-image n → convert bs ≡ refusal-line n
 
 -- its records are some of the old one's, in their order: no word is written twice, and none is lost; no byte is left over
 pub record Converted-records (bs : List ℕ) : Type 0 where

@@ -12,6 +12,7 @@ pub mod Answers
 pub mod Ends
 pub mod Image
 pub mod Listing
+pub mod Counted
 pub mod Records
 pub mod Bench
 pub mod Convert

@@ -6,9 +6,8 @@ use Prim.Native.String.{String}
 use Prim.Native.String as Text
 use Prim.Native.Char.{code}
 use lib.Dec.{ltb}
-use Rattle.model.specs.Words.{Pointer}
 use Rattle.model.specs.Registers.{Machine}
-use Rattle.model.specs.Run.{Reply, refused, spent, halted, fault, run, trace}
+use Rattle.model.specs.Run.{Reply, refused, spent, halted, fault, run, Traced, trace, total}
 use Rattle.model.specs.Image.{Image, refused-image, loaded, image}
 
 unfoldable pub ascii : String → List ℕ
@@ -29,27 +28,31 @@ line [] = ascii "\n"
 line (w ∷ []) = w ++ ascii "\n"
 line (w ∷ v ∷ ws) = w ++ ascii " " ++ line (v ∷ ws)
 
--- a completed step's number, and IPR after it
-unfoldable pub step-line : (number : ℕ) → Pointer → List ℕ
-step-line n p = line (decimal n ∷ decimal (p .ring) ∷ decimal (p .segment) ∷ decimal (p .word) ∷ [])
+-- a completed step's number, IPR after it, and how many pointer words it read (02, L2)
+unfoldable pub step-line : (number : ℕ) → Traced → List ℕ
+step-line n x = line (decimal n ∷ decimal (x .ipr .ring) ∷ decimal (x .ipr .segment) ∷ decimal (x .ipr .word) ∷ decimal (x .pointers) ∷ [])
 
-unfoldable pub step-lines : (count : ℕ) → List Pointer → List ℕ
+unfoldable pub step-lines : (count : ℕ) → List Traced → List ℕ
 step-lines c [] = []
-step-lines c (p ∷ ps) = step-line (suc c) p ++ step-lines (suc c) ps
+step-lines c (x ∷ xs) = step-line (suc c) x ++ step-lines (suc c) xs
 
-unfoldable pub last-line : Reply → List ℕ
-last-line (refused n) = line (ascii "refused" ∷ decimal n ∷ [])
-last-line (spent c) = line (ascii "spent" ∷ decimal c ∷ [])
-last-line (halted c) = line (ascii "halted" ∷ decimal c ∷ [])
-last-line (fault n c p) =
-    line (ascii "fault" ∷ decimal n ∷ decimal c ∷ decimal (p .ring) ∷ decimal (p .segment) ∷ decimal (p .word) ∷ [])
+unfoldable pub refusal-line : (number : ℕ) → List ℕ
+refusal-line n = line (ascii "refused" ∷ decimal n ∷ [])
+
+-- with the total of the steps' pointer words
+unfoldable pub last-line : Reply → (total : ℕ) → List ℕ
+last-line (refused n) k = refusal-line n
+last-line (spent c) k = line (ascii "spent" ∷ decimal c ∷ decimal k ∷ [])
+last-line (halted c) k = line (ascii "halted" ∷ decimal c ∷ decimal k ∷ [])
+last-line (fault n c p) k =
+    line (ascii "fault" ∷ decimal n ∷ decimal c ∷ decimal (p .ring) ∷ decimal (p .segment) ∷ decimal (p .word) ∷ decimal k ∷ [])
 
 unfoldable pub listing : (budget : ℕ) → Machine → List ℕ
-listing b m = step-lines 0 (trace b m) ++ last-line (run b m .reply)
+listing b m = step-lines 0 (trace b m) ++ last-line (run b m .reply) (total b m)
 
 -- the text of an image, for the laptop and the bench alike; a refused one prints only `refused NUMBER`
 unfoldable pub image-listing : Image → List ℕ
-image-listing (refused-image n) = last-line (refused n)
+image-listing (refused-image n) = refusal-line n
 image-listing (loaded m b) = listing b m
 
 unfoldable pub image-text : (bytes : List ℕ) → List ℕ

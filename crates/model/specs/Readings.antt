@@ -2,14 +2,19 @@
 use mathlib.Core.List.{List, [], _∷_, _++_}
 use Prim.Native.Nat.{ℕ, _+_}
 use Rattle.model.specs.Registers.{Registers, Machine}
-use Rattle.model.specs.Opcodes.{AOS, EAP, TRA, TZE, CALL, LDBR, HLT}
+use Rattle.model.specs.Words.{pointer-word}
+use Rattle.model.specs.Opcodes.{Opcode, LDA, STA, AOS, EAP, TRA, TZE, CALL, LDBR, HLT}
 use Rattle.model.specs.Listing.{ascii}
-use Rattle.model.specs.Notation.{pointer, segment, by-ipr, by-pr, indirect-by-pr, bytes, ST-record, WD-records, image-of}
-use Rattle.model.specs.Cases.{step-faults, ipr-becomes, pr-becomes, word-becomes, run-lists, image-prints, image-converts, Holds, about-to-do, about-to, case-12-registers}
+use Rattle.model.specs.Notation.{pointer, segment, by-ipr, by-pr, indirect-by-pr, indirect-word, bytes, ST-record, WD-records, image-of}
+use Rattle.model.specs.Cases.{step-faults, ipr-becomes, pr-becomes, word-becomes, step-counts, run-lists, image-prints, image-converts, Holds, about-to-do, about-to, through-pointer, case-12-registers, pointers-up, through-pointers}
 
 -- the instruction and one word in segment 1
 unfoldable pub doing : (instruction ring segment-1 word : ℕ) → Machine
 doing i n d w = about-to-do i n (pointer n 1 0) d (w ∷ [])
+
+-- an instruction with I on, and the pointer words of segment 1, whose LENGTH is given
+unfoldable pub through : Opcode → (length : ℕ) → (words : List ℕ) → Machine
+through o l ws = about-to-do (indirect-by-pr o 1) 4 (pointer 4 1 0) (segment 3 l 4 4 4 "R V" 0) ws
 
 -- case 12's registers with another DBR
 unfoldable pub with-descriptors : (address length : ℕ) → Registers
@@ -49,7 +54,7 @@ pub record Readings : Type 0 where
   pub stored-44-is-refused : Holds (image-converts (stored-one ((4, 1) ∷ []) ((4, 3) ∷ (64, 4) ∷ [])) (ascii "refused 44\n"))
   pub stored-4-is-refused : Holds (image-converts (image-of 64 (with-descriptors 65 0) [] 1) (ascii "refused 4\n"))
   -- WITHIN MEMORY with LENGTH 0 lets ADDRESS equal the memory's length, and no more: 4, and 34
-  pub empty-descriptor-segment-at-the-end-passes-4 : Holds (image-prints (image-of 64 (with-descriptors 64 0) [] 1) "fault 11 0 4 4 0\n")
+  pub empty-descriptor-segment-at-the-end-passes-4 : Holds (image-prints (image-of 64 (with-descriptors 64 0) [] 1) "fault 11 0 4 4 0 0\n")
   pub empty-descriptor-segment-past-the-end-is-4 : Holds (image-prints (image-of 64 (with-descriptors 65 0) [] 1) "refused 4\n")
   pub LDBR-of-the-end-passes-34 : Holds (ipr-becomes (doing (by-pr LDBR 1) 0 (segment 3 1 0 0 0 "R V" 0) 4) (pointer 0 0 1))
   pub LDBR-past-the-end-is-34 : Holds (step-faults (doing (by-pr LDBR 1) 0 (segment 3 1 0 0 0 "R V" 0) 5) 34 (pointer 0 1 0))
@@ -72,7 +77,20 @@ pub record Readings : Type 0 where
   pub unknown-opcode-is-32 : Holds (step-faults (doing 0 4 0 0) 32 (pointer 4 0 0))
   pub HLT-above-ring-0-is-33 : Holds (step-faults (doing (by-pr HLT 1) 4 0 0) 33 (pointer 4 0 0))
   -- HLT advances IPR and has its step line
-  pub HLT-is-listed : Holds (run-lists 5 (doing (by-pr HLT 1) 0 0 0) "1 0 0 1\nhalted 1\n")
-  pub no-budget-is-spent : Holds (run-lists 0 (doing (by-pr HLT 1) 0 0 0) "spent 0\n")
+  pub HLT-is-listed : Holds (run-lists 5 (doing (by-pr HLT 1) 0 0 0) "1 0 0 1 0\nhalted 1 0\n")
+  pub no-budget-is-spent : Holds (run-lists 0 (doing (by-pr HLT 1) 0 0 0) "spent 0 0\n")
+  -- POINTER WORDS are counted once they are read (02, L2), whatever comes after them; none before the address
+  pub through-one-has-1 : Holds (step-counts (through-pointer (segment 3 1 3 3 3 "R V" 0)) 1)
+  pub through-64-has-64 : Holds (step-counts (through-pointers 64) 64)
+  pub third-is-15 : Holds (step-faults (through LDA 2 (pointers-up 3 0)) 15 (pointer 4 1 2))
+  pub third-unread-has-2 : Holds (step-counts (through LDA 2 (pointers-up 3 0)) 2)
+  pub across-segments-has-2 : Holds (step-counts (through EAP 1 (indirect-word (pointer 4 0 0) ∷ [])) 2)
+  pub fault-31-has-64 : Holds (step-counts (through-pointers 65) 64)
+  pub target-is-23 : Holds (step-faults (through STA 1 (pointer-word (pointer 4 0 0) ∷ [])) 23 (pointer 4 0 0))
+  pub target-unwritten-has-1 : Holds (step-counts (through STA 1 (pointer-word (pointer 4 0 0) ∷ [])) 1)
+  pub HLT-with-I-on-has-0 : Holds (step-counts (through HLT 1 (0 ∷ [])) 0)
+  -- a run's total is the sum over its step lines, and a faulting step isn't in it
+  pub totals-are-sums : Holds (run-lists 3 (through TRA 1 (pointer-word (pointer 4 0 0) ∷ [])) "1 4 0 0 1\n2 4 0 0 1\n3 4 0 0 1\nspent 3 3\n")
+  pub faulting-step-is-not-in-the-total : Holds (run-lists 1 (through-pointers 65) "fault 31 0 4 1 64 0\n")
   -- WORD NUMBERS go round from 65,535 to 0
   pub offset-goes-round : Holds (pr-becomes (about-to-do (by-pr EAP 1 + 3) 4 (pointer 4 1 65535) 0 []) 5 (pointer 4 1 2))

@@ -6,7 +6,7 @@ use Prim.Native.Nat.{ℕ, _+_}
 use lib.ListN.{length}
 use Rattle.model.specs.Registers.{Machine}
 use Rattle.model.specs.Image.{Mark, mark-of, record-size, Loading, refused-image, whole-record-on, image-after}
-use Rattle.model.specs.Run.{spent, run, after, trace}
+use Rattle.model.specs.Run.{spent, run, after, trace, total}
 use Rattle.model.specs.Listing.{step-lines, last-line, listing}
 
 -- an image is its records one after another: a whole record is judged by its own bytes and by whether any follow, and the rest comes after it
@@ -23,4 +23,4 @@ Image-needs-rn = (l : Loading) → image-after l [] ≡ refused-image 42
 abbrev pub Listing-is-lines : Type 0
 Listing-is-lines =
     (j k : ℕ) (m : Machine) → run j m .reply ≡ spent j →
-    listing (j + k) m ≡ step-lines 0 (trace j m) ++ step-lines j (trace k (after j m)) ++ last-line (run (j + k) m .reply)
+    listing (j + k) m ≡ step-lines 0 (trace j m) ++ step-lines j (trace k (after j m)) ++ last-line (run (j + k) m .reply) (total j m + total k (after j m))

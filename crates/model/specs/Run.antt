@@ -1,13 +1,13 @@
 -- 01, 'The questions, in order': runs under a budget, their replies, what stands after each step, and the stretch. Assumes nothing: these are definitions.
 use mathlib.Core.Bool.{cond}
 use mathlib.Core.List.{List, [], _∷_}
-use Prim.Native.Nat.{ℕ, zero, suc}
+use Prim.Native.Nat.{ℕ, zero, suc, _+_}
 use lib.Dec.{ltb}
 use Rattle.model.specs.Words.{Pointer}
 use Rattle.model.specs.Registers.{Machine}
 use Rattle.model.specs.Questions.{start-questions}
 use Rattle.model.specs.Program.{Outcome, faults, completes, halts}
-use Rattle.model.specs.Step.{step}
+use Rattle.model.specs.Step.{step, pointer-words}
 
 -- all that a run answers; the count is the number of completed steps, and a refusal's is 0
 pub data Reply : Type 0 where
@@ -67,23 +67,55 @@ stepped-to m (completes k) = stepped completed k
 unfoldable pub single-step : Machine → Stepped
 single-step m = unless-refused (start-questions m) (λ n. stepped (StepReply.refused n) m) (stepped-to m (step m))
 
--- IPR after each completed step
-unfoldable pub trace-on : Outcome → (Machine → List Pointer) → List Pointer
-trace-on (faults n t) f = []
-trace-on (halts k) f = k .registers .ipr ∷ []
-trace-on (completes k) f = k .registers .ipr ∷ f k
+-- THE TRACE: of each completed step IPR after it, and how many pointer words it read (02, L2)
+pub record Traced : Type 0 where
+  pub ipr : Pointer
+  pub pointers : ℕ
 
-unfoldable pub trace-from : (left : ℕ) → Machine → List Pointer
+unfoldable pub traced : Machine → (pointers : ℕ) → Traced
+traced k c = record { ipr = k .registers .ipr; pointers = c }
+
+unfoldable pub trace-on : (pointers : ℕ) → Outcome → (Machine → List Traced) → List Traced
+trace-on c (faults n t) f = []
+trace-on c (halts k) f = traced k c ∷ []
+trace-on c (completes k) f = traced k c ∷ f k
+
+unfoldable pub trace-from : (left : ℕ) → Machine → List Traced
 trace-from zero m = []
-trace-from (suc n) m = trace-on (step m) (λ k. trace-from n k)
+trace-from (suc n) m = trace-on (pointer-words m) (step m) (λ k. trace-from n k)
 
-unfoldable pub trace : (budget : ℕ) → Machine → List Pointer
+unfoldable pub trace : (budget : ℕ) → Machine → List Traced
 trace b m = unless-refused (start-questions m) (λ n. []) (trace-from b m)
 
+-- a run's total is that of its completed steps
+unfoldable pub total-of : List Traced → ℕ
+total-of [] = 0
+total-of (x ∷ xs) = x .pointers + total-of xs
+
+unfoldable pub total : (budget : ℕ) → Machine → ℕ
+total b m = total-of (trace b m)
+
+-- how many the step read at which a run faults; 0 where it ends otherwise
+unfoldable pub fault-count-on : (count : ℕ) → Outcome → (Machine → ℕ) → ℕ
+fault-count-on c (faults n t) f = c
+fault-count-on c (halts k) f = 0
+fault-count-on c (completes k) f = f k
+
+unfoldable pub fault-count-from : (left : ℕ) → Machine → ℕ
+fault-count-from zero m = 0
+fault-count-from (suc n) m = fault-count-on (pointer-words m) (step m) (λ k. fault-count-from n k)
+
+unfoldable pub fault-count : (budget : ℕ) → Machine → ℕ
+fault-count b m = unless-refused (start-questions m) (λ n. 0) (fault-count-from b m)
+
+-- a single step has its own count, faulting or not
+unfoldable pub single-count : Machine → ℕ
+single-count m = unless-refused (start-questions m) (λ n. 0) (pointer-words m)
+
 -- THE STRETCH is a run: its budget is the number of steps up to and with the first that ends below ring n, or the run's own where none does
-unfoldable pub steps-to-below : (ring : ℕ) → (count otherwise : ℕ) → List Pointer → ℕ
+unfoldable pub steps-to-below : (ring : ℕ) → (count otherwise : ℕ) → List Traced → ℕ
 steps-to-below n c b [] = b
-steps-to-below n c b (p ∷ ps) = cond (ltb (p .ring) n) (suc c) (steps-to-below n (suc c) b ps)
+steps-to-below n c b (x ∷ xs) = cond (ltb (x .ipr .ring) n) (suc c) (steps-to-below n (suc c) b xs)
 
 unfoldable pub stretch : (ring budget : ℕ) → Machine → ℕ
 stretch n b m = steps-to-below n 0 b (trace b m)

@@ -9,7 +9,7 @@ use Rattle.model.specs.Words.{Descriptor, Pointer, pointer-in, indirect-
 use Rattle.model.specs.Registers.{Registers, Machine, pr, dbr-in, with-a, with-dbr, with-ipr, with-prs, with-pr, moved-by, with-ring-at-least, advanced}
 use Rattle.model.specs.Opcodes.{Access, sets, reads, writes, updates, transfers, calls, returns, loads-dbr, ends-run, Opcode, decoded}
 use Rattle.model.specs.Questions.{dbr-fits, fetch-questions, read-questions, write-questions, transfer-questions, return-questions, new-ring, call-questions}
-use Rattle.model.specs.Program.{Program, fail, finish, halt, look, read, write, Outcome, execute}
+use Rattle.model.specs.Program.{Program, fail, finish, halt, look, read, tick, write, Outcome, execute, ticks}
 
 -- 2. THE EFFECTIVE ADDRESS, TPR. P off: IPR's ring and segment. P on: the PR's segment, in the larger of the two rings
 unfoldable pub first-address : Instruction → Registers → Pointer
@@ -22,7 +22,7 @@ next-address t d w = with-ring-at-least (max (t .ring) (d .r1)) (pointer-in w)
 -- while I is on; 31, first: is the pointer word among the instruction's first 64?
 unfoldable pub chain : (left : ℕ) → (indirect : Bool) → Pointer → (Pointer → Program) → Program
 chain zero i t f = cond i (fail 31 t) (f t)
-chain (suc n) i t f = cond i (read (read-questions t) t (λ d w. chain n (indirect-in w) (next-address t d w) f)) (f t)
+chain (suc n) i t f = cond i (read (read-questions t) t (λ d w. tick (chain n (indirect-in w) (next-address t d w) f))) (f t)
 
 -- an opcode without an operand forms no address, and what it does asks for none: it is handed IPR
 unfoldable pub with-operand : Opcode → Instruction → Registers → (Pointer → Program) → Program
@@ -89,3 +89,7 @@ step-program n r =
 
 unfoldable pub step : Machine → Outcome
 step m = execute m (step-program (length (m .memory)) (m .registers))
+
+-- 02, L2: how many pointer words the step reads, faulting or not
+unfoldable pub pointer-words : Machine → ℕ
+pointer-words m = ticks m (step-program (length (m .memory)) (m .registers))

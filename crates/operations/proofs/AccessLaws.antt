@@ -18,14 +18,14 @@ use Rattle.words.specs.View.{as-pointer}
 use Rattle.words.specs.declared.descriptor.Descriptor.{Descriptor}
 use Rattle.words.specs.declared.pointer.Pointer as Code
 use Rattle.opcodes.specs.Table.{result}
-use Rattle.segments.specs.Translation.{accessed, Writes}
-use Rattle.segments.specs.View.{as-dbr, registers-with, Becomes, Does-with-any-prs, Completes, faulted-after}
-use Rattle.segments.specs.declared.state.Core.{Core}
-use Rattle.segments.specs.declared.state.After.{After}
+use Rattle.segments.specs.Translation.{as-dbr, accessed, Writes}
+use Rattle.state.specs.View.{registers-with, Becomes, Does-with-any-prs, Completes, faulted-after}
+use Rattle.state.specs.declared.Core.{Core}
+use Rattle.state.specs.declared.After.{After}
 use Rattle.segments.specs.declared.access.Accessed.{Accessed}
 use Rattle.segments.specs.declared.access.Accessed.the-variants.{Refused, Word}
 use Rattle.segments.specs.declared.translate.Dbr as Code-dbr
-use Rattle.segments.proofs.DoesLaws.{does-fault, does-as, does-advance, does-refused-read, read-goes-on, does-refused-write, does-write}
+use Rattle.state.proofs.DoesLaws.{does-fault, does-as, does-advance, does-refused-read, read-goes-on, does-refused-write, does-write}
 
 -- LDBR's word as the code takes it apart
 pub dbr-in-word : (v : ℕ) → record { address = v % 16777216; length = v / 16777216 % 8192 } ≡ dbr-in v

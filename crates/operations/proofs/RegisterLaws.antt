@@ -6,9 +6,9 @@ use lib.ListN.{set}
 use Rattle.model.specs.Words.{Pointer, pointer-word}
 use Rattle.model.specs.Registers.{Registers, with-a, with-ipr, with-prs, with-pr, moved-by, advanced}
 use Rattle.words.specs.declared.descriptor.Descriptor.{Descriptor}
-use Rattle.segments.specs.View.{registers-with, Becomes, Completes, Finishes, Finishes-with-any-prs, pr-of}
-use Rattle.segments.specs.declared.state.Core.{Core}
-use Rattle.segments.specs.declared.state.After.{After}
+use Rattle.state.specs.View.{registers-with, Becomes, Completes, Finishes, Finishes-with-any-prs, pr-of}
+use Rattle.state.specs.declared.Core.{Core}
+use Rattle.state.specs.declared.After.{After}
 
 pub literal-finishes : (c z : Core) (d : Descriptor) (x : After) (v u : ℕ) → Becomes c (with-a v) z → v ≡ u → Completes z d x → Finishes-with-any-prs c d (with-a u) x
 unfolding with-a advanced with-ipr moved-by

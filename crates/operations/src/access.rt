@@ -8,12 +8,13 @@ ghost use Rattle.model.specs.Questions as Questions;
 ghost use Rattle.model.specs.Step as Step;
 ghost use Rattle.words.specs.View.{as-pointer};
 ghost use Rattle.opcodes.specs.Table.{result};
-ghost use Rattle.segments.specs.View.{as-dbr, Ready, Does-with-any-prs};
+ghost use Rattle.segments.specs.Translation.{as-dbr};
+ghost use Rattle.state.specs.View.{Ready, Does-with-any-prs};
+use questions::Use;
 use segments::access::Accessed;
-use segments::questions::Use;
-use segments::state::After;
-use segments::state::Core;
 use segments::translate::Dbr;
+use state::After;
+use state::Core;
 use words::descriptor::Descriptor;
 use words::pointer::Pointer;
 
@@ -24,10 +25,10 @@ pub fn load(core: Core, code: Descriptor, memory: &[u64], opcode: u8, t: Pointer
 {
     let dbr = core.dbr;
     match segments::access::read(Use::Read, dbr, memory, t) {
-        Accessed::Refused(n) => segments::state::faulted(core, code, n, t),
+        Accessed::Refused(n) => state::faulted(core, code, n, t),
         Accessed::Word(d, v) => {
             let a = opcodes::arithmetic::result_of(opcode, core.a, v);
-            segments::state::completed(segments::state::with_a(core, a), code)
+            state::completed(state::with_a(core, a), code)
         }
     }
 }
@@ -40,9 +41,9 @@ pub fn store(core: Core, code: Descriptor, memory: &mut [u64], t: Pointer, value
     let dbr = core.dbr;
     let n = segments::access::write(dbr, memory, t, value);
     if n != 0 {
-        return segments::state::faulted(core, code, n, t);
+        return state::faulted(core, code, n, t);
     }
-    segments::state::completed(core, code)
+    state::completed(core, code)
 }
 
 // AOS: 22, then 23, before it stores.
@@ -52,7 +53,7 @@ pub fn update(core: Core, code: Descriptor, memory: &mut [u64], t: Pointer) -> A
 {
     let dbr = core.dbr;
     match segments::access::read(Use::Read, dbr, memory, t) {
-        Accessed::Refused(n) => segments::state::faulted(core, code, n, t),
+        Accessed::Refused(n) => state::faulted(core, code, n, t),
         Accessed::Word(d, v) => store(core, code, memory, t, opcodes::arithmetic::add(v, 1)),
     }
 }
@@ -82,13 +83,13 @@ pub fn load_dbr(core: Core, code: Descriptor, memory: &[u64], t: Pointer) -> Aft
 {
     let dbr = core.dbr;
     match segments::access::read(Use::Read, dbr, memory, t) {
-        Accessed::Refused(n) => segments::state::faulted(core, code, n, t),
+        Accessed::Refused(n) => state::faulted(core, code, n, t),
         Accessed::Word(d, v) => {
             let next = dbr_in(v);
             if !is_dbr(next, memory.len()) {
-                return segments::state::faulted(core, code, 34, t);
+                return state::faulted(core, code, 34, t);
             }
-            segments::state::completed(segments::state::with_dbr(core, next), code)
+            state::completed(state::with_dbr(core, next), code)
         }
     }
 }

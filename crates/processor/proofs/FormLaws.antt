@@ -10,11 +10,12 @@ use Rattle.model.specs.Words.{Pointer, descriptor-in, Instruction, instruction-
 use Rattle.model.specs.Registers.{Registers, Machine}
 use Rattle.model.specs.Opcodes.{Opcode, decoded}
 use Rattle.model.specs.Questions.{ask, fetch-questions}
-use Rattle.model.specs.Program.{Program, fail, execute, faults}
-use Rattle.model.specs.Step.{first-address, chain, with-operand, perform, obey, step-program, step}
-use Rattle.model.proofs.BranchLaws.{and-left, and-right}
+use Rattle.model.specs.Program.{Program, fail, execute, faults, ticks}
+use Rattle.model.specs.Step.{first-address, chain, with-operand, perform, obey, step-program, step, pointer-words}
+use Rattle.model.proofs.BranchLaws.{cond-holds, and-left, and-right}
 use Rattle.model.proofs.Computing.{by-computation}
 use Rattle.model.proofs.QuestionLaws.{ask-yes}
+use Rattle.model.proofs.TickLaws.{perform-without-ticks}
 use Rattle.model.proofs.TableLaws.{Each, If-there, decoded-has}
 use Rattle.words.specs.View.{as-pointer, Pointer-within}
 use Rattle.words.specs.declared.descriptor.Descriptor.{Descriptor}
@@ -24,12 +25,12 @@ use Rattle.segments.specs.Translation.{descriptor-word, word-through, Reads, ac
 use Rattle.segments.specs.declared.access.Accessed.{Accessed}
 use Rattle.segments.specs.declared.access.Accessed.the-variants.{Refused, Word}
 use Rattle.segments.proofs.TranslateLaws.{right-fits, law-passes}
-use Rattle.segments.proofs.UseLaws.{read-refused, read-passed}
+use Rattle.segments.proofs.UseLaws.{read-refused, read-passed, read-refused-counts, read-passed-counts}
 use Rattle.control.proofs.MoveLaws.{executable-right}
-use Rattle.addressing.specs.Address.{as-formed, Addressed}
+use Rattle.addressing.specs.Address.{read-by, as-formed, Addressed}
 use Rattle.addressing.specs.declared.Address.{Address}
 use Rattle.addressing.specs.declared.Address.the-variants as Address
-use Rattle.addressing.proofs.ChainLaws.{landed, chain-formed}
+use Rattle.addressing.proofs.ChainLaws.{landed, chain-formed, chain-counted}
 use Rattle.dispatch.specs.Dispatch.{dispatched, dispatched-in}
 use Rattle.processor.specs.Step.{obeyed-in, operand-formed, Ready-to-perform}
 
@@ -100,6 +101,13 @@ unfolding of-entry obey dispatched
 direct n r i t none h e f = refl
 direct n r i t (some o) h e f = ap (λ p. cond (not (o .privileged) || eqb (r .ipr .ring) 0) p (fail 33 (r .ipr))) (operand-direct n r i t o h e f)
 
+-- what is done at TPR reads no pointer word
+dispatched-counts : (m : Machine) (n : ℕ) (r : Registers) (i : Instruction) (d : Option Opcode) (t : Pointer) → ticks m (dispatched n r i d t) ≡ 0
+unfolding dispatched ticks
+dispatched-counts m n r i none t = refl
+dispatched-counts m n r i (some o) t =
+    cond-holds (λ p. ticks m p ≡ 0) (not (o .privileged) || eqb (r .ipr .ring) 0) (λ _. perform-without-ticks m n (o .access) i r t) (λ _. refl)
+
 -- 33 comes first
 not-or : (p e : Bool) → p && not e ≡ true → not p || e ≡ false
 not-or true true h = sym h
@@ -116,6 +124,12 @@ privileged-refused : (m : Machine) (n : ℕ) (r : Registers) (i : Instruction) (
 unfolding of-entry obey execute
 privileged-refused m n r i none e = impossible (sym e)
 privileged-refused m n r i (some o) e = rw (not-or (o .privileged) (eqb (r .ipr .ring) 0) e)
+
+privileged-counts : (m : Machine) (n : ℕ) (r : Registers) (i : Instruction) (d : Option Opcode) → of-entry (λ o. o .privileged) d && not (eqb (r .ipr .ring) 0) ≡ true →
+    ticks m (obey n r i d) ≡ 0
+unfolding of-entry obey ticks
+privileged-counts m n r i none e = impossible (sym e)
+privileged-counts m n r i (some o) e = rw (not-or (o .privileged) (eqb (r .ipr .ring) 0) e) refl
 
 -- through pointer words
 module _ (m : Machine) (n : ℕ) (i : Instruction) (t : Pointer) (f : t ≡ first-address i (m .registers)) (x : Address) (s : Addressed (m .registers .dbr) (m .memory) t x) where
@@ -134,6 +148,12 @@ module _ (m : Machine) (n : ℕ) (i : Instruction) (t : Pointer) (f : t ≡ firs
       execute m (obey n (m .registers) i (some o)) ≡ landed m (perform n (o .access) i (m .registers)) (as-formed x)
   through-words o e g = ap (execute m) (chained o e g) ∙ chain-formed m t x s (perform n (o .access) i (m .registers))
 
+  words-counted : (o : Opcode) → o .operand && i .i ≡ true → o .privileged && not (eqb (m .registers .ipr .ring) 0) ≡ false →
+      ticks m (obey n (m .registers) i (some o)) ≡ read-by (as-formed x)
+  words-counted o e g =
+      ap (ticks m) (chained o e g)
+      ∙ chain-counted m t x s (perform n (o .access) i (m .registers)) (λ u. perform-without-ticks m n (o .access) i (m .registers) u)
+
   performed : (o : Opcode) (u : Pointer) → o .privileged && not (eqb (m .registers .ipr .ring) 0) ≡ false →
       perform n (o .access) i (m .registers) u ≡ dispatched n (m .registers) i (some o) u
   unfolding dispatched
@@ -144,32 +164,45 @@ module _ (m : Machine) (w v : ℕ) (q : v ≡ instruction-in w .opcode) (b j : B
   e : b ≡ of-entry (λ o. o .operand) (decoded (instruction-in w .opcode))
   e = e₀ ∙ ap (λ z. of-entry (λ o. o .operand) (decoded z)) q
 
-  pub operand-direct-law : (t : Pointer) → not (b && j) ≡ true → t ≡ first-address (instruction-in w) (m .registers) → execute m (obeyed-in m w) ≡ execute m (dispatched-in m w t)
-  operand-direct-law t y g =
-      ap (execute m)
-      (direct _ (m .registers) (instruction-in w) t (decoded (instruction-in w .opcode)) (decoded-has Ignores (instruction-in w .opcode) each-ignores)
-      (rw (← e, ← f) (not-true (b && j) y)) g)
+  pub operand-direct-law : (t : Pointer) → not (b && j) ≡ true → t ≡ first-address (instruction-in w) (m .registers) →
+      (execute m (obeyed-in m w) ≡ execute m (dispatched-in m w t)) × (ticks m (obeyed-in m w) ≡ 0)
+  operand-direct-law t y g = (ap (execute m) same, ap (ticks m) same ∙ dispatched-counts m _ (m .registers) (instruction-in w) (decoded (instruction-in w .opcode)) t)
+    where
+      same : obeyed-in m w ≡ dispatched-in m w t
+      same =
+          direct _ (m .registers) (instruction-in w) t (decoded (instruction-in w .opcode)) (decoded-has Ignores (instruction-in w .opcode) each-ignores)
+          (rw (← e, ← f) (not-true (b && j) y)) g
 
   module _ (y : not (b && j) ≡ false) (p : Bool) (h₀ : p ≡ of-entry (λ o. o .privileged) (decoded v)) where
     h : p ≡ of-entry (λ o. o .privileged) (decoded (instruction-in w .opcode))
     h = h₀ ∙ ap (λ z. of-entry (λ o. o .privileged) (decoded z)) q
 
-    pub operand-33-law : p && not (eqb (m .registers .ipr .ring) 0) ≡ true → execute m (obeyed-in m w) ≡ faults 33 (m .registers .ipr)
-    operand-33-law g = privileged-refused m _ (m .registers) (instruction-in w) (decoded (instruction-in w .opcode)) (rw (← h) g)
+    pub operand-33-law : p && not (eqb (m .registers .ipr .ring) 0) ≡ true →
+        (execute m (obeyed-in m w) ≡ faults 33 (m .registers .ipr)) × (ticks m (obeyed-in m w) ≡ 0)
+    operand-33-law g =
+        let d = decoded (instruction-in w .opcode) in
+        (privileged-refused m _ (m .registers) (instruction-in w) d (rw (← h) g), privileged-counts m _ (m .registers) (instruction-in w) d (rw (← h) g))
 
     pub operand-chain-law : (t : Pointer) (x : Address) → p && not (eqb (m .registers .ipr .ring) 0) ≡ false → t ≡ first-address (instruction-in w) (m .registers) →
         Addressed (m .registers .dbr) (m .memory) t x → operand-formed m w x
-    unfolding landed of-entry
+    unfolding landed of-entry read-by
     operand-chain-law t x g k s = through (decoded (instruction-in w .opcode)) refl (rw (← e, ← f) (not-false (b && j) y)) (rw (← h) g) x s k
       where
         lands : (o : Opcode) (x : Address) → o .privileged && not (eqb (m .registers .ipr .ring) 0) ≡ false → decoded (instruction-in w .opcode) ≡ some o →
             Addressed (m .registers .dbr) (m .memory) t x → t ≡ first-address (instruction-in w) (m .registers) → o .operand && instruction-in w .i ≡ true → operand-formed m w x
-        lands o (Address.Bad n u) g d s k a = ap (λ z. execute m (obey (length (m .memory)) (m .registers) (instruction-in w) z)) d ∙ through-words m (length (m .memory)) (instruction-in w) t k (Address.Bad n u) s o a g
-        lands o (Address.Good u) g d s k a = (
+        lands o (Address.Bad n u c) g d s k a = (
           ap (λ z. execute m (obey (length (m .memory)) (m .registers) (instruction-in w) z)) d
-              ∙ through-words m (length (m .memory)) (instruction-in w) t k (Address.Good u) s o a g
-              ∙ ap (execute m) (performed m (length (m .memory)) (instruction-in w) t k (Address.Good u) s o (as-pointer u) g)
+              ∙ through-words m (length (m .memory)) (instruction-in w) t k (Address.Bad n u c) s o a g,
+          ap (λ z. ticks m (obey (length (m .memory)) (m .registers) (instruction-in w) z)) d
+              ∙ words-counted m (length (m .memory)) (instruction-in w) t k (Address.Bad n u c) s o a g,
+        )
+        lands o (Address.Good u c) g d s k a = (
+          ap (λ z. execute m (obey (length (m .memory)) (m .registers) (instruction-in w) z)) d
+              ∙ through-words m (length (m .memory)) (instruction-in w) t k (Address.Good u c) s o a g
+              ∙ ap (execute m) (performed m (length (m .memory)) (instruction-in w) t k (Address.Good u c) s o (as-pointer u) g)
               ∙ ap (λ z. execute m (dispatched (length (m .memory)) (m .registers) (instruction-in w) z (as-pointer u))) (sym d),
+          ap (λ z. ticks m (obey (length (m .memory)) (m .registers) (instruction-in w) z)) d
+              ∙ words-counted m (length (m .memory)) (instruction-in w) t k (Address.Good u c) s o a g,
           s .within,
         )
 
@@ -183,25 +216,29 @@ pub ruleset operands = (operand-direct-law, operand-33-law, operand-chain-law)
 
 -- THE FETCH, by every question
 module _ (m : Machine) (y : Accessed) (s : accessed (m .registers .dbr) (m .memory) (m .registers .ipr) (fetch-questions (m .registers .ipr)) y) where
-  pub fetch-faults : (n : ℕ) → y ≡ Refused n → step m ≡ faults n (m .registers .ipr)
-  unfolding step step-program
-  fetch-faults n e = read-refused m (m .registers .ipr) _ y s _ n e
+  pub fetch-faults : (n : ℕ) → y ≡ Refused n → (step m ≡ faults n (m .registers .ipr)) × (pointer-words m ≡ 0)
+  unfolding step step-program pointer-words
+  fetch-faults n e = (read-refused m (m .registers .ipr) _ y s _ n e, read-refused-counts m (m .registers .ipr) _ y s _ n e)
 
   module _ (d : Descriptor) (w : ℕ) (e : y ≡ Word d w) where
     pub fetch-obeys : step m ≡ execute m (obeyed-in m w)
     unfolding step step-program
     fetch-obeys = read-passed m (m .registers .ipr) _ y s _ d w e
 
+    pub fetch-counts : pointer-words m ≡ ticks m (obeyed-in m w)
+    unfolding pointer-words step-program
+    fetch-counts = read-passed-counts m (m .registers .ipr) _ y s _ d w e
+
     code-fetched : Code-right (d .0) (m .registers .ipr .ring) (length (m .memory))
     unfolding fetch-questions
     code-fetched = let h = rw e at s in executable-right _ (d .0) (h .looks .found .right) (m .registers .ipr) _ refl (ask-yes _ _ _ (h .looks .asked) .0)
 
     module _ (x : Address) (g : operand-formed m w x) where
-      pub form-bad : (n : ℕ) (t : Code.Pointer) → x ≡ Address.Bad n t → step m ≡ faults n (as-pointer t)
-      form-bad n t f = fetch-obeys ∙ (rw f at g)
+      pub form-bad : (n : ℕ) (t : Code.Pointer) (c : ℕ) → x ≡ Address.Bad n t c → (step m ≡ faults n (as-pointer t)) × (pointer-words m ≡ c)
+      form-bad n t c f = let h = rw f at g in (fetch-obeys ∙ h .0, fetch-counts ∙ h .1)
 
-      pub form-ready : (t : Code.Pointer) → x ≡ Address.Good t → Ready-to-perform m w t × Code-right (d .0) (m .registers .ipr .ring) (length (m .memory))
-      form-ready t f = let h = rw f at g in (record { step-same = fetch-obeys ∙ h .0; within = h .1 }, code-fetched)
+      pub form-ready : (t : Code.Pointer) (c : ℕ) → x ≡ Address.Good t c → Ready-to-perform m w t c × Code-right (d .0) (m .registers .ipr .ring) (length (m .memory))
+      form-ready t c f = let h = rw f at g in (record { step-same = fetch-obeys ∙ h .0; counted = fetch-counts ∙ h .1; within = h .2 }, code-fetched)
 
 -- THE FETCH, by the word that has passed
 module _ (m : Machine) (code w : ℕ) (right : Code-right code (m .registers .ipr .ring) (length (m .memory))) (h : m .registers .ipr .segment < m .registers .dbr .length)
@@ -220,12 +257,11 @@ module _ (m : Machine) (code w : ℕ) (right : Code-right code (m .registers .ip
       }
 
   pub quick-ready : (j : Bool) (t : Code.Pointer) → j ≡ instruction-in w .i → j ≡ false → as-pointer t ≡ first-address (instruction-in w) (m .registers) → Pointer-within t →
-      Ready-to-perform m w t
+      Ready-to-perform m w t 0
   quick-ready j t n k q z =
       record {
-        step-same =
-            fetch-obeys m (Word (record { 0 = code }) w) quick-reads (record { 0 = code }) w refl
-            ∙ operand-direct-law m w (instruction-in w .opcode) refl (of-entry (λ o. o .operand) (decoded (instruction-in w .opcode))) j refl n (as-pointer t) (off (of-entry (λ o. o .operand) (decoded (instruction-in w .opcode))) j k) q;
+        step-same = fetch-obeys m (Word (record { 0 = code }) w) quick-reads (record { 0 = code }) w refl ∙ direct-here .0;
+        counted = fetch-counts m (Word (record { 0 = code }) w) quick-reads (record { 0 = code }) w refl ∙ direct-here .1;
         within = z;
       }
     where
@@ -233,6 +269,10 @@ module _ (m : Machine) (code w : ℕ) (right : Code-right code (m .registers .ip
       off true true k = impossible k
       off true false k = refl
       off false j k = refl
+
+      direct-here : (execute m (obeyed-in m w) ≡ execute m (dispatched-in m w (as-pointer t))) × (ticks m (obeyed-in m w) ≡ 0)
+      direct-here =
+          operand-direct-law m w (instruction-in w .opcode) refl (of-entry (λ o. o .operand) (decoded (instruction-in w .opcode))) j refl n (as-pointer t) (off (of-entry (λ o. o .operand) (decoded (instruction-in w .opcode))) j k) q
 
 -- the word's own part of memory
 pub code-fits : (code ring n : ℕ) → Code-right code ring n → descriptor-in code .address + descriptor-in code .length ≤ n

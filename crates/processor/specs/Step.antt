@@ -5,8 +5,8 @@ use lib.ListN.{length}
 use Rattle.model.specs.Words.{instruction-in}
 use Rattle.model.specs.Registers as Registers
 use Rattle.model.specs.Opcodes.{decoded}
-use Rattle.model.specs.Program.{Program, execute, faults}
-use Rattle.model.specs.Step.{obey, step}
+use Rattle.model.specs.Program.{Program, execute, faults, ticks}
+use Rattle.model.specs.Step.{obey, step, pointer-words}
 use Rattle.words.specs.View.{as-pointer, Pointer-within}
 use Rattle.words.specs.declared.pointer.Pointer.{Pointer}
 use Rattle.segments.specs.Translation.{Code-right}
@@ -23,18 +23,20 @@ obeyed-in m w = obey (length (m .memory)) (m .registers) (instruction-in w) (dec
 
 -- TPR of a fetched instruction, or its fault
 abbrev pub operand-formed : Registers.Machine → (word : ℕ) → Address → Type 0
-operand-formed m w (Address.Bad n t) = execute m (obeyed-in m w) ≡ faults n (as-pointer t)
-operand-formed m w (Address.Good t) = (execute m (obeyed-in m w) ≡ execute m (dispatched-in m w (as-pointer t))) × Pointer-within t
+operand-formed m w (Address.Bad n t c) = (execute m (obeyed-in m w) ≡ faults n (as-pointer t)) × (ticks m (obeyed-in m w) ≡ c)
+operand-formed m w (Address.Good t c) =
+    (execute m (obeyed-in m w) ≡ execute m (dispatched-in m w (as-pointer t))) × (ticks m (obeyed-in m w) ≡ c) × Pointer-within t
 
--- the step is what the instruction word does at the pointer
-pub record Ready-to-perform (m : Registers.Machine) (word : ℕ) (t : Pointer) : Type 0 where
+-- the step is what the instruction word does at the pointer, and has read so many pointer words
+pub record Ready-to-perform (m : Registers.Machine) (word : ℕ) (t : Pointer) (count : ℕ) : Type 0 where
   pub step-same : step m ≡ execute m (dispatched-in m word (as-pointer t))
+  pub counted : pointer-words m ≡ count
   pub within : Pointer-within t
 
 abbrev pub formed : Registers.Machine → Formed → Type 0
-formed m (Formed.Bad n t) = step m ≡ faults n (as-pointer t)
-formed m (Formed.Ready w t d) = Ready-to-perform m w t × Code-right (d .0) (m .registers .ipr .ring) (length (m .memory))
+formed m (Formed.Bad n t c) = (step m ≡ faults n (as-pointer t)) × (pointer-words m ≡ c)
+formed m (Formed.Ready w t d c) = Ready-to-perform m w t c × Code-right (d .0) (m .registers .ipr .ring) (length (m .memory))
 
 abbrev pub quickly-formed : Registers.Machine → Prepared → Type 0
 quickly-formed m Prepared.No = Unit {0}
-quickly-formed m (Prepared.Ready w t) = Ready-to-perform m w t
+quickly-formed m (Prepared.Ready w t) = Ready-to-perform m w t 0

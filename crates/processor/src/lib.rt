@@ -4,22 +4,22 @@ ghost use mathlib.Core.Bool.{true};
 ghost use lib.ListN.{length};
 ghost use Rattle.model.specs.Questions.{all, pointer-in-range};
 ghost use Rattle.segments.specs.Translation.{Code-right};
-ghost use Rattle.segments.specs.View.{as-pointers, as-machine, Ready};
+ghost use Rattle.state.specs.View.{as-pointers, as-machine, Ready};
 ghost use Rattle.processor.specs.Step.{operand-formed, formed, quickly-formed};
 use addressing::Address;
+use questions::Use;
 use segments::access::Accessed;
-use segments::questions::Use;
-use segments::state::Core;
+use state::Core;
 use words::descriptor::Descriptor;
 use words::pointer::Pointer;
 
-// A fault with its pointer, or an instruction with TPR and its segment's descriptor.
+// A fault with its pointer, or an instruction with TPR and its segment's descriptor; and how many pointer words were read.
 pub enum Formed {
-    Bad(u8, Pointer),
-    Ready(u64, Pointer, Descriptor),
+    Bad(u8, Pointer, u64),
+    Ready(u64, Pointer, Descriptor, u64),
 }
 
-// An instruction with TPR; `No` says nothing of it.
+// An instruction with TPR, which took no pointer word; `No` says nothing of it.
 pub enum Prepared {
     No,
     Ready(u64, Pointer),
@@ -34,10 +34,10 @@ fn operand(core: Core, prs: &[u16; 24], memory: &[u64], w: u64) -> Address
     let first = addressing::first_address(core, prs, w);
     let entry = opcodes::table::entry_of(words::instruction::opcode(w));
     if !(entry.operand & words::instruction::is_indirect(w)) {
-        return Address::Good(first);
+        return Address::Good(first, 0);
     }
     if entry.privileged & (ipr.ring != 0) {
-        return Address::Bad(33, ipr);
+        return Address::Bad(33, ipr, 0);
     }
     let dbr = core.dbr;
     addressing::effective(dbr, memory, first)
@@ -51,10 +51,10 @@ pub fn form(core: Core, prs: &[u16; 24], memory: &[u64]) -> Formed
     let dbr = core.dbr;
     let ipr = core.ipr;
     match segments::access::read(Use::Fetch, dbr, memory, ipr) {
-        Accessed::Refused(n) => Formed::Bad(n, ipr),
+        Accessed::Refused(n) => Formed::Bad(n, ipr, 0),
         Accessed::Word(d, w) => match operand(core, prs, memory, w) {
-            Address::Bad(n, t) => Formed::Bad(n, t),
-            Address::Good(t) => Formed::Ready(w, t, d),
+            Address::Bad(n, t, c) => Formed::Bad(n, t, c),
+            Address::Good(t, c) => Formed::Ready(w, t, d, c),
         },
     }
 }

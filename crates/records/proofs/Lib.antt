@@ -1,4 +1,3 @@
 -- Laws of this crate. Assumes nothing.
 pub mod RecordLaws
 pub mod PartLaws
-pub mod SetLaws

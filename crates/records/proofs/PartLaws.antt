@@ -12,9 +12,9 @@ use Rattle.model.specs.Image.{mark-of, record-size, refused-image, marked-on, b
 use Rattle.model.proofs.ImageLaws.{image-record-by-record, image-needs-rn}
 use Rattle.fields.specs.declared.mark.Mark.{Mark}
 use Rattle.fields.specs.declared.mark.Mark.the-variants.{Memory, Start, Word, Run, Unknown}
-use Rattle.records.specs.declared.loading.Outcome.the-variants.{Refused}
+use Rattle.loading.specs.declared.Outcome.the-variants.{Refused}
 use Rattle.fields.specs.Mark.{as-mark, size-of}
-use Rattle.records.specs.Record.{outcome-image, Goes}
+use Rattle.loading.specs.Record.{outcome-image, Goes}
 use Rattle.fields.proofs.MarkLaws.{mark-of-front}
 
 pub part-is-short : (k : Mark) (bs : List ℕ) → length bs < size-of k → length bs < 61

@@ -22,7 +22,7 @@ use Rattle.reference.proofs.Listings.{listing-equal}
 unfoldable Says-of : Run03.Image → Image → (out : List ℕ) → Type 0
 Says-of i x out =
     Entry03.Bench-says (cond (eqb (i .refusal) 0) (cond (ltb (length out) (64 * (i .budget + 1))) 45 0) (i .refusal))
-    (Run03.listing (i .budget) (record { regs = i .regs; mem = i .mem })) (bench-on x out .answer) out (bench-on x out .buffer)
+    (Run03.listing View.pointers (i .budget) (record { regs = i .regs; mem = i .mem })) (bench-on x out .answer) out (bench-on x out .buffer)
 
 bench-says : (x : Image) (out : List ℕ) → Judged x → Says-of (View.image x) x out
 unfolding Says-of Judged negated call-refused call-wrote bench-on View.image Run03.bad-image Entry03.Bench-says
@@ -31,7 +31,7 @@ bench-says (refused-image (suc n)) out s = rw (eqb·suc-zero n) (refl, refl)
 bench-says (loaded m b) out s = rw (leb-is-not-ltb (64 * (b + 1)) (length out), listing-equal b m s) (by-test (ltb (length out) (64 * (b + 1))))
   where
     text : List ℕ
-    text = Run03.listing b (View.machine m)
+    text = Run03.listing View.pointers b (View.machine m)
 
     by-test : (t : Bool) →
         Entry03.Bench-says (cond t 45 0) text (cond (not t) (call-wrote text out) (call-refused 45 out) .answer) out

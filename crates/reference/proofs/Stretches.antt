@@ -8,7 +8,7 @@ use lib.ListN.{length}
 use borrow.Author.Tests.{eq-eqb}
 use Rattle.model.specs.Words.{Pointer}
 use Rattle.model.specs.Registers.{Machine}
-use Rattle.model.specs.Run.{trace, steps-to-below, stretch}
+use Rattle.model.specs.Run.{Traced, trace, steps-to-below, stretch}
 use Rattle.model.proofs.BranchLaws.{cond-rel}
 use Rattle.model.proofs.CountLaws.{run-counts}
 use Rattle.reference.specs.Run as Run03
@@ -22,18 +22,18 @@ and-true : (a b : Bool) → b ≡ true → a ≡ (a && b)
 and-true true b e = sym e
 and-true false b e = refl
 
-stretch-view : (n b : ℕ) (m : Machine) (c : ℕ) (ps : List Pointer) → Trails m c ps →
-    steps-to-below n c b ps ≡ Promise03.stretch-from (length ps) (suc c) n b (View.machine m)
+stretch-view : (n b : ℕ) (m : Machine) (c : ℕ) (xs : List Traced) → Trails m c xs →
+    steps-to-below n c b xs ≡ Promise03.stretch-from (length xs) (suc c) n b (View.machine m)
 unfolding steps-to-below Promise03.stretch-from
 stretch-view n b m c [] h = refl
-stretch-view n b m c (p ∷ ps) h =
+stretch-view n b m c (x ∷ xs) h =
     let r = Run03.run (suc c) (View.machine m) in
-    let low : ltb (p .ring) n ≡ ltb (r .machine .regs .ipr .ring) n =
+    let low : ltb (x .ipr .ring) n ≡ ltb (r .machine .regs .ipr .ring) n =
     ap (λ (q : Pointer). ltb (q .ring) n) (h .0) ∙ ap (λ (x : Run03.Ran). ltb (x .machine .regs .ipr .ring) n) (run-equal (suc c) m) in
     let full : eqb (r .reply .count) (suc c) ≡ true =
-    eq-eqb (r .reply .count) (suc c) (sym (h .1 ∙ ap (λ (x : Run03.Ran). x .reply .count) (run-equal (suc c) m))) in
-    cond-rel _≡_ {b = ltb (p .ring) n} (low ∙ and-true (ltb (r .machine .regs .ipr .ring) n) (eqb (r .reply .count) (suc c)) full) (λ _. refl)
-    (λ _. stretch-view n b m (suc c) ps (h .2))
+    eq-eqb (r .reply .count) (suc c) (sym (h .2 ∙ ap (λ (x : Run03.Ran). x .reply .count) (run-equal (suc c) m))) in
+    cond-rel _≡_ {b = ltb (x .ipr .ring) n} (low ∙ and-true (ltb (r .machine .regs .ipr .ring) n) (eqb (r .reply .count) (suc c)) full) (λ _. refl)
+    (λ _. stretch-view n b m (suc c) xs (h .3))
 
 pub stretch-equal : Stretch-equal
 unfolding stretch Promise03.stretch

@@ -1,4 +1,4 @@
--- Document 03's bench and run over lent words: as it stands there. Assumes nothing: these are definitions.
+-- Document 03's bench and run over lent words: as it stands there, but for the counts handed to the listing (02, L2). Assumes nothing: these are definitions.
 use mathlib.Core.Path.{_≡_}
 use mathlib.Core.Bool.{cond}
 use mathlib.Core.List.{List, [], _∷_, _++_}
@@ -7,6 +7,7 @@ use lib.Dec.{ltb, eqb}
 use lib.ListN.{length, getD, drop}
 use lib.IntN.{ℤ, pos, negsuc}
 use Rattle.reference.specs.Machine.{Place, Regs}
+use Rattle.reference.specs.Step.{Machine}
 use Rattle.reference.specs.Run.{Reply, run, image, listing}
 
 -- what `run_words` answers; 03 has it from its code
@@ -19,8 +20,8 @@ pub record Answer : Type 0 where
   pub at : ℕ
 
 -- the export: an image and a text buffer; the number negated, or the text's length
-unfoldable pub listing-of : List ℕ → List ℕ
-listing-of bs = listing (image bs .budget) (record { regs = image bs .regs; mem = image bs .mem })
+unfoldable pub listing-of : (pointers : Machine → ℕ) → List ℕ → List ℕ
+listing-of p bs = listing p (image bs .budget) (record { regs = image bs .regs; mem = image bs .mem })
 
 unfoldable pub bench-refusal : (image : List ℕ) → (room : ℕ) → ℕ
 bench-refusal bs k =

@@ -63,19 +63,19 @@ Reach-equal =
 abbrev pub Image-equal : Type 0
 Image-equal = (bs : List ℕ) → View.image (stored-image bs) ≡ Run03.image bs
 
--- a run that 1 to 4 let start has the same text; of a refused one 03 prints a fault line, where 01 says `refused NUMBER`
+-- a run that 1 to 4 let start has the same text, once 03's lines have the model's counts of pointer words (02, L2); of a refused one 03 prints a fault line, where 01 says `refused NUMBER`
 abbrev pub Listing-equal : Type 0
-Listing-equal = (b : ℕ) (m : Machine) → start-questions m ≡ 0 → listing b m ≡ Run03.listing b (View.machine m)
+Listing-equal = (b : ℕ) (m : Machine) → start-questions m ≡ 0 → listing b m ≡ Run03.listing View.pointers b (View.machine m)
 
 -- an image that loads has the same text
 abbrev pub Text-equal : Type 0
-Text-equal = (bs : List ℕ) (m : Machine) (b : ℕ) → image bs ≡ loaded m b → image-text bs ≡ Entry03.listing-of bs
+Text-equal = (bs : List ℕ) (m : Machine) (b : ℕ) → image bs ≡ loaded m b → image-text bs ≡ Entry03.listing-of View.pointers bs
 
 -- the bench's call answers and leaves what 03's contract says, where no word is written twice
 abbrev pub Bench-equal : Type 0
 Bench-equal =
     (bs out : List ℕ) → One-an-address (records bs) →
-    Entry03.Bench-says (Entry03.bench-refusal bs (length out)) (Entry03.listing-of bs) (bench bs out .answer) out (bench bs out .buffer)
+    Entry03.Bench-says (Entry03.bench-refusal bs (length out)) (Entry03.listing-of View.pointers bs) (bench bs out .answer) out (bench bs out .buffer)
 
 -- a run over lent words answers and leaves what 03's contract says; of a longer memory 01 asks 1 before the record's length, 03 after it
 abbrev pub Lent-equal : Type 0

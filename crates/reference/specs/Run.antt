@@ -1,4 +1,4 @@
--- Document 03's runs, images and listing: as it stands there. Assumes nothing: these are definitions.
+-- Document 03's runs, images and listing: as it stands there, but for the counts of pointer words in the listing. Assumes nothing: these are definitions.
 use mathlib.Core.Bool.{Bool, true, false, _&&_, _||_, not, cond}
 use mathlib.Core.List.{List, [], _∷_, _++_}
 use Prim.Native.Nat.{ℕ, zero, suc, _+_, _*_, _/_, _%_}
@@ -126,19 +126,28 @@ numeral v = digits 20 v []
 unfoldable pub place-text : Place → List ℕ
 place-text p = numeral (p .ring) ++ (32 ∷ numeral (p .seg)) ++ (32 ∷ numeral (p .at))
 
-unfoldable pub line-of : (count : ℕ) → Place → List ℕ
-line-of c p = numeral c ++ (32 ∷ place-text p) ++ (10 ∷ [])
+-- 02, L2: each line ends with a number more, how many pointer words the step read, and in the last line their total;
+-- 03's machine doesn't count them, so `pointers` is handed in: how many a step from there reads
+unfoldable pub counted : (pointers : ℕ) → List ℕ
+counted k = (32 ∷ numeral k) ++ (10 ∷ [])
 
-unfoldable pub last-line : Reply → List ℕ
-last-line r =
-    cond (eqb (r .kind) 1) ((115 ∷ 112 ∷ 101 ∷ 110 ∷ 116 ∷ 32 ∷ []) ++ numeral (r .count) ++ (10 ∷ []))
-    (cond (eqb (r .kind) 2) ((104 ∷ 97 ∷ 108 ∷ 116 ∷ 101 ∷ 100 ∷ 32 ∷ []) ++ numeral (r .count) ++ (10 ∷ []))
-    ((102 ∷ 97 ∷ 117 ∷ 108 ∷ 116 ∷ 32 ∷ []) ++ numeral (r .number) ++ (32 ∷ numeral (r .count)) ++ (32 ∷ place-text (r .where-at)) ++ (10 ∷ [])))
+unfoldable pub line-of : (count : ℕ) → Place → (pointers : ℕ) → List ℕ
+line-of c p k = numeral c ++ (32 ∷ place-text p) ++ counted k
 
-unfoldable pub lines-from : (left count : ℕ) → Machine → List ℕ
-lines-from zero c m = []
-lines-from (suc n) c m =
-    line-of (suc c) (run (suc c) m .machine .regs .ipr) ++ lines-from n (suc c) m
+unfoldable pub last-line : Reply → (total : ℕ) → List ℕ
+last-line r k =
+    cond (eqb (r .kind) 1) ((115 ∷ 112 ∷ 101 ∷ 110 ∷ 116 ∷ 32 ∷ []) ++ numeral (r .count) ++ counted k)
+    (cond (eqb (r .kind) 2) ((104 ∷ 97 ∷ 108 ∷ 116 ∷ 101 ∷ 100 ∷ 32 ∷ []) ++ numeral (r .count) ++ counted k)
+    ((102 ∷ 97 ∷ 117 ∷ 108 ∷ 116 ∷ 32 ∷ []) ++ numeral (r .number) ++ (32 ∷ numeral (r .count)) ++ (32 ∷ place-text (r .where-at)) ++ counted k))
 
-unfoldable pub listing : (budget : ℕ) → Machine → List ℕ
-listing b m = lines-from (run b m .reply .count) 0 m ++ last-line (run b m .reply)
+unfoldable pub lines-from : (pointers : Machine → ℕ) → (left count : ℕ) → Machine → List ℕ
+lines-from p zero c m = []
+lines-from p (suc n) c m =
+    line-of (suc c) (run (suc c) m .machine .regs .ipr) (p (run c m .machine)) ++ lines-from p n (suc c) m
+
+unfoldable pub total-from : (pointers : Machine → ℕ) → (left count : ℕ) → Machine → ℕ
+total-from p zero c m = 0
+total-from p (suc n) c m = p (run c m .machine) + total-from p n (suc c) m
+
+unfoldable pub listing : (pointers : Machine → ℕ) → (budget : ℕ) → Machine → List ℕ
+listing p b m = let n = run b m .reply .count in lines-from p n 0 m ++ last-line (run b m .reply) (total-from p n 0 m)

@@ -1,9 +1,11 @@
 -- The model's values as document 03's, and 03's machines as the model's. Assumes nothing: these are definitions.
 use mathlib.Core.Bool.{Bool, true, false}
 use mathlib.Core.List.{map}
+use Prim.Native.Nat.{ℕ}
 use Rattle.model.specs.Words as Words
 use Rattle.model.specs.Registers as Registers
 use Rattle.model.specs.Program.{Outcome, faults, completes, halts}
+use Rattle.model.specs.Step.{pointer-words}
 use Rattle.model.specs.Run as Run
 use Rattle.model.specs.Answers.{Numbers, reply-numbers}
 use Rattle.model.specs.Image as Image
@@ -76,3 +78,7 @@ registers r = record { a = r .a; dbr = record { address = r .base; length = r .b
 
 abbrev pub model-machine : Step03.Machine → Registers.Machine
 model-machine m = record { registers = registers (m .regs); memory = m .mem }
+
+-- what 03's machine doesn't count: how many pointer words a step reads
+abbrev pub pointers : Step03.Machine → ℕ
+pointers m = pointer-words (model-machine m)

@@ -3,7 +3,8 @@ use mathlib.Core.Path.{_≡_, refl, sym, _∙_, ap, subst}
 use mathlib.Core.Bool.{true}
 use mathlib.Core.List.{List, [], _∷_, _++_, append-nil, append-assoc}
 use mathlib.Core.Logic.{inl, inr}
-use Prim.Native.Nat.{ℕ, suc, _+_, _-_, _≤_, _<_}
+use Prim.Native.Nat.{ℕ, suc, _+_, _-_, _*_, _^_, _≤_, _<_}
+use native.Mathlib.Nat.{zero-add, add-assoc}
 use native.Mathlib.Numerals.{add-one}
 use native.Mathlib.Omega.{arith}
 use lib.Dec.{leb}
@@ -11,10 +12,11 @@ use lib.ListN.{length, take}
 use borrow.Author.Tests.{leb-true}
 use Rattle.model.specs.Registers.{Machine}
 use Rattle.model.specs.Questions.{all, pointer-in-range, registers-in-range, dbr-fits, start-questions}
-use Rattle.model.specs.Step.{step}
+use Rattle.model.specs.Words as Words
+use Rattle.model.specs.Step.{step, pointer-words}
 use Rattle.model.specs.Run as Run
-use Rattle.model.specs.Run.{ran, run-from, trace-from}
-use Rattle.model.specs.Program.{faults}
+use Rattle.model.specs.Run.{ran, run-from, trace-from, total-of, fault-count-from}
+use Rattle.model.specs.Program.{faults, completes, halts}
 use Rattle.model.proofs.BranchLaws.{and-left, and-right}
 use Rattle.model.proofs.WordLaws.{in-range-within}
 use Rattle.model.proofs.QuestionLaws.{ask-yes}
@@ -24,14 +26,14 @@ use Rattle.model.proofs.RunLaws.{run-faults, run-halts, run-completes, trace-fa
 use Rattle.words.specs.View.{as-pointer, Pointer-within}
 use Rattle.words.specs.declared.pointer.Pointer.{Pointer}
 use Rattle.words.specs.declared.descriptor.Descriptor.{Descriptor}
-use Rattle.segments.specs.declared.state.Core.{Core}
-use Rattle.segments.specs.declared.state.After.{After}
-use Rattle.segments.specs.declared.state.End.{End}
-use Rattle.segments.specs.declared.state.End.the-variants.{Completed, Halted, Faulted}
-use Rattle.segments.specs.View.{as-pointers, as-machine, Ready, ended, Does}
+use Rattle.state.specs.declared.Core.{Core}
+use Rattle.state.specs.declared.After.{After}
+use Rattle.state.specs.declared.End.{End}
+use Rattle.state.specs.declared.End.the-variants.{Completed, Halted, Faulted}
+use Rattle.state.specs.View.{as-pointers, as-machine, Ready, ended, Does}
 use Rattle.dispatch.specs.Dispatch.{dispatched-in}
 use Rattle.processor.specs.Step.{Ready-to-perform}
-use Rattle.run.specs.Run.{as-reply, Reply-within, completed, Ran-as, noted-pointers, Noted, Traced, On-the-way, At-the-end}
+use Rattle.run.specs.Run.{as-reply, Reply-within, completed, Ran-as, noted-steps, Noted, Traced, Counted, On-the-way, At-the-end}
 use Rattle.run.specs.declared.Ran.{Ran}
 
 -- WHAT 1 TO 4 GIVE
@@ -62,10 +64,10 @@ module _ (c : Core) (prs m : List ℕ) (e : start-questions (as-machine c prs m)
       let h = in-range-within _ passing-ipr in record { ring-within = h .ring-within; segment-within = h .segment-within; word-within = h .word-within }
 
 -- AN INSTRUCTION PERFORMED is the step
-pub performed-ends : (c : Core) (d : Descriptor) (prs m prs-now m-now : List ℕ) (w : ℕ) (t : Pointer) (x : After) → Ready-to-perform (as-machine c prs m) w t →
+pub performed-ends : (c : Core) (d : Descriptor) (prs m prs-now m-now : List ℕ) (w : ℕ) (t : Pointer) (i : ℕ) (x : After) → Ready-to-perform (as-machine c prs m) w t i →
     Does c d (as-pointers prs) m (dispatched-in (as-machine c prs m) w (as-pointer t)) x (as-pointers prs-now) m-now →
     ended (as-machine c prs m) (step (as-machine c prs m)) (x .end) (as-machine (x .core) prs-now m-now)
-performed-ends c d prs m prs-now m-now w t x r h =
+performed-ends c d prs m prs-now m-now w t i x r h =
     subst (λ z. ended (as-machine c prs m) z (x .end) (as-machine (x .core) prs-now m-now)) (sym (r .step-same)) (h .ends)
 
 -- 1 TO 4 PASS AGAIN, however a step ends
@@ -75,12 +77,47 @@ passing-after m Completed k s e = step-keeps-passing m k e (inl s)
 passing-after m Halted k s e = step-keeps-passing m k e (inr s)
 passing-after m (Faulted n t) k s e = ap start-questions (s .1) ∙ e
 
+-- POINTER WORDS of a step
+module _ (b : ℕ) (m : Machine) where
+  last-faults : (n : ℕ) (t : Words.Pointer) → step m ≡ faults n t → fault-count-from (suc b) m ≡ pointer-words m
+  unfolding fault-count-from Run.fault-count-on
+  last-faults n t e = rw e refl
+
+  last-halts : (k : Machine) → step m ≡ halts k → fault-count-from (suc b) m ≡ 0
+  unfolding fault-count-from Run.fault-count-on
+  last-halts k e = rw e refl
+
+  last-completes : (k : Machine) → step m ≡ completes k → fault-count-from (suc b) m ≡ fault-count-from b k
+  unfolding fault-count-from Run.fault-count-on
+  last-completes k e = rw e refl
+
+total-of-more : (j : Machine) (r : ℕ) (l : List Run.Traced) → total-of (record { ipr = j .registers .ipr; pointers = r } ∷ l) ≡ r + total-of l
+unfolding total-of
+total-of-more j r l = refl
+
+add-nothing : (n : ℕ) → n + 0 ≡ n
+add-nothing n = omega arith
+
+total-of-one : (j : Machine) (r : ℕ) → total-of (record { ipr = j .registers .ipr; pointers = r } ∷ []) ≡ r
+unfolding total-of
+total-of-one j r = add-nothing r
+
 -- ONE STEP ON THE WAY, of b with c behind
 module _ (b c : ℕ) (m : Machine) (t : List ℕ) where
-  pub way-starts : c ≤ b → start-questions m ≡ 0 → On-the-way b c m t c m t
-  way-starts h e = record { within-budget = h; passes = e; size-same = refl; trace-size = refl; run-same = refl; trace-same = λ _. refl }
+  pub way-starts : c ≤ b → start-questions m ≡ 0 → On-the-way b c m t c 0 m t
+  way-starts h e =
+      record {
+        within-budget = h;
+        passes = e;
+        size-same = refl;
+        trace-size = refl;
+        run-same = refl;
+        trace-same = λ _. refl;
+        total-same = sym (zero-add (total-of (trace-from (b - c) m)));
+        last-same = refl;
+      }
 
-  module _ (n : ℕ) (k : Machine) (u : List ℕ) (way : On-the-way b c m t n k u) (h : n < b) where
+  module _ (n done : ℕ) (k : Machine) (u : List ℕ) (way : On-the-way b c m t n done k u) (h : n < b) (r : ℕ) (read : pointer-words k ≡ r) where
     left : b - n ≡ suc (b - suc n)
     left = omega arith
 
@@ -89,7 +126,8 @@ module _ (b c : ℕ) (m : Machine) (t : List ℕ) where
 
     module _ (j : Machine) where
       -- a fault, which leaves the machine
-      pub way-faults : (i : ℕ) (p : Pointer) → step k ≡ faults i (as-pointer p) → j ≡ k → At-the-end b c m t (Run.Reply.fault i n (as-pointer p)) n j u
+      pub way-faults : (i : ℕ) (p : Pointer) → step k ≡ faults i (as-pointer p) → j ≡ k → At-the-end b c m t (Run.Reply.fault i n (as-pointer p)) n done r j u
+      unfolding total-of
       way-faults i p s f =
           record {
             passes = ap start-questions f ∙ way .passes;
@@ -99,16 +137,27 @@ module _ (b c : ℕ) (m : Machine) (t : List ℕ) where
             trace-same =
                 λ room.
                 way .trace-same room
-                ∙ ap (λ z. noted-pointers (take n u) ++ z) (ap (λ z. trace-from z k) left ∙ trace-faults (b - suc n) i (as-pointer p) k s)
-                ∙ append-nil (noted-pointers (take n u));
+                ∙ ap (λ z. noted-steps (take n u) ++ z) (ap (λ z. trace-from z k) left ∙ trace-faults (b - suc n) i (as-pointer p) k s)
+                ∙ append-nil (noted-steps (take n u));
+            total-same =
+                way .total-same ∙ ap (λ z. done + total-of (trace-from z k)) left ∙ ap (λ l. done + total-of l) (trace-faults (b - suc n) i (as-pointer p) k s) ∙ add-nothing done;
+            last-same = way .last-same ∙ ap (λ z. fault-count-from z k) left ∙ last-faults (b - suc n) k i (as-pointer p) s ∙ read;
           }
 
-      module _ (v : List ℕ) (w : Noted n (j .registers .ipr) u v) where
-        noted-here : b ≤ length t → noted-pointers (take (n + 1) v) ≡ noted-pointers (take n u) ++ j .registers .ipr ∷ []
+      here : Run.Traced
+      here = record { ipr = j .registers .ipr; pointers = r }
+
+      traced-here : Run.traced j (pointer-words k) ≡ here
+      unfolding Run.traced here
+      traced-here = ap (λ c. record { ipr = j .registers .ipr; pointers = c }) read
+
+      module _ (v : List ℕ) (w : Noted n (record { ipr = j .registers .ipr; pointers = r }) u v) where
+        noted-here : b ≤ length t → noted-steps (take (n + 1) v) ≡ noted-steps (take n u) ++ here ∷ []
+        unfolding here
         noted-here room = w .noted (let z = way .trace-size in omega arith)
 
-        pub way-halts : ended k (step k) Halted j → At-the-end b c m t (Run.Reply.halted (n + 1)) (n + 1) j v
-        unfolding ended
+        pub way-halts : ended k (step k) Halted j → At-the-end b c m t (Run.Reply.halted (n + 1)) (n + 1) (done + r) 0 j v
+        unfolding ended here
         way-halts s =
             record {
               passes = passing-after k Halted j s (way .passes);
@@ -119,12 +168,16 @@ module _ (b c : ℕ) (m : Machine) (t : List ℕ) where
               trace-same =
                   λ room.
                   way .trace-same room
-                  ∙ ap (λ z. noted-pointers (take n u) ++ z) (ap (λ z. trace-from z k) left ∙ trace-halts (b - suc n) k j s)
+                  ∙ ap (λ z. noted-steps (take n u) ++ z) (ap (λ z. trace-from z k) left ∙ trace-halts (b - suc n) k j s ∙ ap (λ x. x ∷ []) traced-here)
                   ∙ sym (noted-here room);
+              total-same =
+                  way .total-same ∙ ap (λ l. done + total-of l) (ap (λ z. trace-from z k) left ∙ trace-halts (b - suc n) k j s ∙ ap (λ x. x ∷ []) traced-here)
+                  ∙ ap (λ z. done + z) (total-of-one j r);
+              last-same = way .last-same ∙ ap (λ z. fault-count-from z k) left ∙ last-halts (b - suc n) k j s;
             }
 
-        pub way-goes-on : ended k (step k) Completed j → length (j .memory) ≡ length (k .memory) → On-the-way b c m t (n + 1) j v
-        unfolding ended
+        pub way-goes-on : ended k (step k) Completed j → length (j .memory) ≡ length (k .memory) → On-the-way b c m t (n + 1) (done + r) j v
+        unfolding ended here
         way-goes-on s z =
             record {
               within-budget = omega arith;
@@ -137,16 +190,23 @@ module _ (b c : ℕ) (m : Machine) (t : List ℕ) where
               trace-same =
                   λ room.
                   way .trace-same room
-                  ∙ ap (λ z. noted-pointers (take n u) ++ z) (ap (λ z. trace-from z k) left ∙ trace-completes (b - suc n) k j s)
-                  ∙ sym (append-assoc (noted-pointers (take n u)) (j .registers .ipr ∷ []) (trace-from (b - suc n) j))
+                  ∙ ap (λ z. noted-steps (take n u) ++ z) goes-trace
+                  ∙ sym (append-assoc (noted-steps (take n u)) (here ∷ []) (trace-from (b - suc n) j))
                   ∙ ap (λ l. l ++ trace-from (b - suc n) j) (sym (noted-here room))
-                  ∙ ap (λ z. noted-pointers (take (n + 1) v) ++ trace-from z j) (sym after);
+                  ∙ ap (λ z. noted-steps (take (n + 1) v) ++ trace-from z j) (sym after);
+              total-same =
+                  way .total-same ∙ ap (λ l. done + total-of l) goes-trace ∙ ap (λ z. done + z) (total-of-more j r (trace-from (b - suc n) j))
+                  ∙ sym (add-assoc done r (total-of (trace-from (b - suc n) j))) ∙ ap (λ z. done + r + total-of (trace-from z j)) (sym after);
+              last-same = way .last-same ∙ ap (λ z. fault-count-from z k) left ∙ last-completes (b - suc n) k j s ∙ ap (λ z. fault-count-from z j) (sym after);
             }
+          where
+            goes-trace : trace-from (b - n) k ≡ here ∷ trace-from (b - suc n) j
+            goes-trace = ap (λ z. trace-from z k) left ∙ trace-completes (b - suc n) k j s ∙ ap (λ x. x ∷ trace-from (b - suc n) j) traced-here
 
 -- STRETCHES OF THE WAY, one after the other
-module _ (b c : ℕ) (m : Machine) (t : List ℕ) (n : ℕ) (k : Machine) (u : List ℕ) (way : On-the-way b c m t n k u) where
-  pub way-joins : (i : ℕ) (j : Machine) (v : List ℕ) → On-the-way b n k u i j v → On-the-way b c m t i j v
-  way-joins i j v more =
+module _ (b c : ℕ) (m : Machine) (t : List ℕ) (n done : ℕ) (k : Machine) (u : List ℕ) (way : On-the-way b c m t n done k u) where
+  pub way-joins : (i r : ℕ) (j : Machine) (v : List ℕ) → On-the-way b n k u i r j v → On-the-way b c m t i (done + r) j v
+  way-joins i r j v more =
       record {
         within-budget = more .within-budget;
         passes = more .passes;
@@ -154,28 +214,38 @@ module _ (b c : ℕ) (m : Machine) (t : List ℕ) (n : ℕ) (k : Machine) (u : L
         trace-size = more .trace-size ∙ way .trace-size;
         run-same = way .run-same ∙ more .run-same;
         trace-same = λ room. way .trace-same room ∙ more .trace-same (let z = way .trace-size in omega arith);
+        total-same = way .total-same ∙ ap (λ z. done + z) (more .total-same) ∙ sym (add-assoc done r (total-of (trace-from (b - i) j)));
+        last-same = way .last-same ∙ more .last-same;
       }
 
-  pub way-ends : (r : Run.Reply) (i : ℕ) (j : Machine) (v : List ℕ) → At-the-end b n k u r i j v → At-the-end b c m t r i j v
-  way-ends r i j v end =
+  pub way-ends : (r : Run.Reply) (i s l : ℕ) (j : Machine) (v : List ℕ) → At-the-end b n k u r i s l j v → At-the-end b c m t r i (done + s) l j v
+  way-ends r i s l j v end =
       record {
         passes = end .passes;
         trace-size = end .trace-size ∙ way .trace-size;
         run-same = way .run-same ∙ end .run-same;
         trace-same = λ room. way .trace-same room ∙ end .trace-same (let z = way .trace-size in omega arith);
+        total-same = way .total-same ∙ ap (λ z. done + z) (end .total-same);
+        last-same = way .last-same ∙ end .last-same;
       }
 
   -- the budget is spent
-  pub way-spent : b ≤ n → At-the-end b c m t (Run.Reply.spent n) n k u
-  unfolding run-from trace-from
+  pub way-spent : b ≤ n → At-the-end b c m t (Run.Reply.spent n) n done 0 k u
+  unfolding run-from trace-from total-of fault-count-from
   way-spent h =
       let none : b - n ≡ 0 = omega arith in
       record {
         passes = way .passes;
         trace-size = way .trace-size;
         run-same = way .run-same ∙ ap (λ z. run-from z n k) none;
-        trace-same = λ room. way .trace-same room ∙ ap (λ z. noted-pointers (take n u) ++ trace-from z k) none ∙ append-nil (noted-pointers (take n u));
+        trace-same = λ room. way .trace-same room ∙ ap (λ z. noted-steps (take n u) ++ trace-from z k) none ∙ append-nil (noted-steps (take n u));
+        total-same = way .total-same ∙ ap (λ z. done + total-of (trace-from z k)) none ∙ add-nothing done;
+        last-same = way .last-same ∙ ap (λ z. fault-count-from z k) none;
       }
+
+-- 64 words and a budget of 32 bits
+pub total-fits : (t n b r : ℕ) → t ≤ 64 * n → n < b → b < 2 ^ 32 → r ≤ 64 → t + r < 2 ^ 64
+total-fits t n b r h k l m = omega arith
 
 -- a fault's pointer is in range
 pub fault-within : (m : Machine) (n : ℕ) (t : Pointer) → start-questions m ≡ 0 → step m ≡ faults n (as-pointer t) → Pointer-within t
@@ -183,11 +253,15 @@ fault-within m n t e s =
     let h = fault-pointer-within m n (as-pointer t) e s in record { ring-within = h .ring-within; segment-within = h .segment-within; word-within = h .word-within }
 
 -- THE ANSWER, where the way began with the run
-pub answers : (b : ℕ) (m : Machine) (t : List ℕ) (x : Ran) (k : Machine) (u : List ℕ) → At-the-end b 0 m t (as-reply (x .reply)) (completed (x .reply)) k u → Reply-within (x .reply) →
-    Ran-as (run-from b 0 m) x k × Traced b m x t u
+pub answers : (b : ℕ) (m : Machine) (t : List ℕ) (x : Ran) (k : Machine) (u : List ℕ) → At-the-end b 0 m t (as-reply (x .reply)) (completed (x .reply)) (x .total) (x .last) k u →
+    Reply-within (x .reply) → Ran-as (run-from b 0 m) x k × Traced b m x t u × Counted b m x
 answers b m t x k u end within = (
   record { same = ap (λ n. run-from n 0 m) all-left ∙ end .run-same; pointer-within = within; passes = end .passes },
   record { size-same = end .trace-size; traced = λ room. sym (ap (λ n. trace-from n m) all-left ∙ end .trace-same room) },
+  record {
+    total-same = sym (ap (λ n. total-of (trace-from n m)) all-left ∙ end .total-same);
+    last-same = sym (ap (λ n. fault-count-from n m) all-left ∙ end .last-same);
+  },
 )
   where
     all-left : b ≡ b - 0

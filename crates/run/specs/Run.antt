@@ -1,7 +1,7 @@
 -- What a run's answer says, and what the part of it says that goes the quick way. Assumes nothing: these are definitions.
 use mathlib.Core.Path.{_≡_}
 use mathlib.Core.List.{List, [], _∷_, _++_, map}
-use Prim.Native.Nat.{ℕ, _+_, _-_, _≤_, _<_}
+use Prim.Native.Nat.{ℕ, _+_, _-_, _/_, _≤_, _<_}
 use lib.ListN.{length, take}
 use Rattle.model.specs.Words as Words
 use Rattle.model.specs.Words.{pointer-in}
@@ -9,8 +9,8 @@ use Rattle.model.specs.Registers.{Machine}
 use Rattle.model.specs.Questions.{start-questions}
 use Rattle.model.specs.Run as Run
 use Rattle.words.specs.View.{as-pointer, Pointer-within}
-use Rattle.segments.specs.declared.state.End.{End}
-use Rattle.segments.specs.declared.state.End.the-variants as End
+use Rattle.state.specs.declared.End.{End}
+use Rattle.state.specs.declared.End.the-variants as End
 use Rattle.processor.specs.Step.{Ready-to-perform}
 use Rattle.processor.specs.declared.Prepared.{Prepared}
 use Rattle.processor.specs.declared.Prepared.the-variants as Prepared
@@ -45,48 +45,61 @@ pub record Ran-as (y : Run.Ran) (x : Ran) (m-now : Machine) : Type 0 where
   pub pointer-within : Reply-within (x .reply)
   pub passes : start-questions m-now ≡ 0
 
--- THE TRACE holds pointer words
-abbrev pub noted-pointers : (trace : List ℕ) → List Words.Pointer
-noted-pointers t = map pointer-in t
+-- THE TRACE holds pointer words, and above each how many the step read
+unfoldable pub step-in : (word : ℕ) → Run.Traced
+step-in w = record { ipr = pointer-in w; pointers = w / 4294967296 }
 
--- a pointer after those noted before it, where the trace has room
-pub record Noted (count : ℕ) (p : Words.Pointer) (trace trace-now : List ℕ) : Type 0 where
+abbrev pub noted-steps : (trace : List ℕ) → List Run.Traced
+noted-steps t = map step-in t
+
+-- a step after those noted before it, where the trace has room
+pub record Noted (count : ℕ) (p : Run.Traced) (trace trace-now : List ℕ) : Type 0 where
   pub size-same : length trace-now ≡ length trace
   pub before-same : take count trace-now ≡ take count trace
-  pub noted : count < length trace → noted-pointers (take (count + 1) trace-now) ≡ noted-pointers (take count trace) ++ p ∷ []
+  pub noted : count < length trace → noted-steps (take (count + 1) trace-now) ≡ noted-steps (take count trace) ++ p ∷ []
 
 -- the definition's trace, where there is room for the whole budget
 pub record Traced (budget : ℕ) (m : Machine) (x : Ran) (trace trace-now : List ℕ) : Type 0 where
   pub size-same : length trace-now ≡ length trace
-  pub traced : budget ≤ length trace → noted-pointers (take (completed (x .reply)) trace-now) ≡ Run.trace-from budget m
+  pub traced : budget ≤ length trace → noted-steps (take (completed (x .reply)) trace-now) ≡ Run.trace-from budget m
+
+-- the definition's pointer words: of the completed steps, and of one at which the run faults
+pub record Counted (budget : ℕ) (m : Machine) (x : Ran) : Type 0 where
+  pub total-same : x .total ≡ Run.total-of (Run.trace-from budget m)
+  pub last-same : x .last ≡ Run.fault-count-from budget m
 
 -- ON THE WAY: from machine m with count c the run has come to machine k with another count, and all that is to come follows
-pub record On-the-way (budget c : ℕ) (m : Machine) (trace : List ℕ) (count : ℕ) (k : Machine) (trace-now : List ℕ) : Type 0 where
+pub record On-the-way (budget c : ℕ) (m : Machine) (trace : List ℕ) (count read : ℕ) (k : Machine) (trace-now : List ℕ) : Type 0 where
   pub within-budget : count ≤ budget
   pub passes : start-questions k ≡ 0
   pub size-same : length (k .memory) ≡ length (m .memory)
   pub trace-size : length trace-now ≡ length trace
   pub run-same : Run.run-from (budget - c) c m ≡ Run.run-from (budget - count) count k
   pub trace-same : budget ≤ length trace →
-      noted-pointers (take c trace) ++ Run.trace-from (budget - c) m ≡ noted-pointers (take count trace-now) ++ Run.trace-from (budget - count) k
+      noted-steps (take c trace) ++ Run.trace-from (budget - c) m ≡ noted-steps (take count trace-now) ++ Run.trace-from (budget - count) k
+  pub total-same : Run.total-of (Run.trace-from (budget - c) m) ≡ read + Run.total-of (Run.trace-from (budget - count) k)
+  pub last-same : Run.fault-count-from (budget - c) m ≡ Run.fault-count-from (budget - count) k
 
 -- at its end: the run's reply, and no step is to come
-pub record At-the-end (budget c : ℕ) (m : Machine) (trace : List ℕ) (reply : Run.Reply) (count : ℕ) (k : Machine) (trace-now : List ℕ) : Type 0 where
+pub record At-the-end (budget c : ℕ) (m : Machine) (trace : List ℕ) (reply : Run.Reply) (count read last : ℕ) (k : Machine) (trace-now : List ℕ) : Type 0 where
   pub passes : start-questions k ≡ 0
   pub trace-size : length trace-now ≡ length trace
   pub run-same : Run.run-from (budget - c) c m ≡ Run.ran reply k
-  pub trace-same : budget ≤ length trace → noted-pointers (take c trace) ++ Run.trace-from (budget - c) m ≡ noted-pointers (take count trace-now)
+  pub trace-same : budget ≤ length trace → noted-steps (take c trace) ++ Run.trace-from (budget - c) m ≡ noted-steps (take count trace-now)
+  pub total-same : Run.total-of (Run.trace-from (budget - c) m) ≡ read
+  pub last-same : Run.fault-count-from (budget - c) m ≡ last
 
 -- where the quick way led from there
-abbrev pub went : (budget c : ℕ) → Machine → (trace : List ℕ) → (count : ℕ) → End → Machine → (trace-now : List ℕ) → Type 0
-went b c m t n End.Completed k u = On-the-way b c m t n k u × (c < n)
-went b c m t n End.Halted k u = At-the-end b c m t (Run.Reply.halted n) n k u
-went b c m t n (End.Faulted i p) k u = At-the-end b c m t (Run.Reply.fault i n (as-pointer p)) n k u × Pointer-within p
+abbrev pub went : (budget c : ℕ) → Machine → (trace : List ℕ) → (count read last : ℕ) → End → Machine → (trace-now : List ℕ) → Type 0
+went b c m t n r l End.Completed k u = On-the-way b c m t n r k u × (c < n)
+went b c m t n r l End.Halted k u = At-the-end b c m t (Run.Reply.halted n) n r 0 k u
+went b c m t n r l (End.Faulted i p) k u = At-the-end b c m t (Run.Reply.fault i n (as-pointer p)) n r l k u × Pointer-within p
 
 pub record Went-as (budget c : ℕ) (m : Machine) (trace : List ℕ) (x : Went) (k : Machine) (trace-now : List ℕ) : Type 0 where
-  pub led : went budget c m trace (x .count) (x .end) k trace-now
+  pub led : went budget c m trace (x .count) (x .read) (x .last) (x .end) k trace-now
+  pub read-within : x .read ≤ 64
 
 -- the next instruction by the quick way, with budget left for it
 abbrev pub next-formed : (count budget : ℕ) → Machine → Prepared → Type 0
 next-formed c b m Prepared.No = Unit {0}
-next-formed c b m (Prepared.Ready w t) = Ready-to-perform m w t × (c < b)
+next-formed c b m (Prepared.Ready w t) = Ready-to-perform m w t 0 × (c < b)

@@ -1,7 +1,8 @@
 -- Two runs in lockstep, over any state S, fault F and step: as far as alike states step alike, the runs are alike. Nothing here knows of rings. Assumes nothing.
-use mathlib.Core.Path.{_≡_, refl, ap}
+use mathlib.Core.Path.{_≡_, refl, ap, ap₂}
 use mathlib.Core.Bool.{Bool, true, false, cond}
-use Prim.Native.Nat.{ℕ, zero, suc, _≤_}
+use mathlib.Core.List.{List, [], _∷_}
+use Prim.Native.Nat.{ℕ, zero, suc, _≤_, _<_}
 use native.Mathlib.Omega.{arith}
 use Rattle.model.proofs.BranchLaws.{cond-rel}
 
@@ -42,6 +43,16 @@ module _ {S F : Type 0} (step : S → Next S F) where
   run-from zero c x = record { end = spent; count = c; state = x }
   run-from (suc n) c x = run-on c x (step x) (λ y. run-from n (suc c) y)
 
+  -- a note of each step, by what stood before it and after it
+  unfoldable pub notes-on : {N : Type 0} → (note : (before after : S) → N) → S → Next S F → (S → List N) → List N
+  notes-on note x (stops f) g = []
+  notes-on note x (ends y) g = note x y ∷ []
+  notes-on note x (goes-on y) g = note x y ∷ g y
+
+  unfoldable pub notes-from : {N : Type 0} → (note : (before after : S) → N) → (left : ℕ) → S → List N
+  notes-from note zero x = []
+  notes-from note (suc n) x = notes-on note x (step x) (λ y. notes-from note n y)
+
   module _ (inside : S → Bool) where
     -- the stretch: the steps up to and with the first that ends outside, or the budget where none does
     unfoldable pub stretch-on : (left : ℕ) → Next S F → (S → ℕ) → ℕ
@@ -52,6 +63,28 @@ module _ {S F : Type 0} (step : S → Next S F) where
     unfoldable pub stretch : (budget : ℕ) → S → ℕ
     stretch zero x = 0
     stretch (suc b) x = stretch-on b (step x) (λ y. stretch b y)
+
+    -- before each step of the stretch the state is inside
+    pub inside-before : (j b c : ℕ) (x : S) → inside x ≡ true → j < stretch b x → inside (run-from j c x .state) ≡ true
+    unfolding run-from run-on stretch stretch-on
+    inside-before zero b c x e h = e
+    inside-before (suc j) zero c x e h = absurd (omega arith)
+    inside-before (suc j) (suc b) c x e h = by-next (step x) h (λ y q l. inside-before j b (suc c) y q l)
+      where
+        -- a step that ends outside is the stretch's last
+        last-outside : (y : S) (n : ℕ) → suc j < cond (inside y) (suc n) 1 → (inside y ≡ true) × (j < n)
+        last-outside y n = by-test (inside y)
+          where
+            by-test : (t : Bool) → suc j < cond t (suc n) 1 → (t ≡ true) × (j < n)
+            by-test true l = (refl, omega arith)
+            by-test false l = absurd (omega arith)
+
+        by-next : (p : Next S F) → suc j < stretch-on b p (λ y. stretch b y) →
+            ((y : S) → inside y ≡ true → j < stretch b y → inside (run-from j (suc c) y .state) ≡ true) →
+            inside (run-on c x p (λ y. run-from j (suc c) y) .state) ≡ true
+        by-next (stops f) i ih = e
+        by-next (ends y) i ih = last-outside y b i .0
+        by-next (goes-on y) i ih = let z = last-outside y (stretch b y) i in ih y (z .0) (z .1)
 
     module _ (A : S → S → Type 0) (law : (x y : S) → A x y → inside x ≡ true → Alike-next A (step x) (step y))
         (same-inside : (x y : S) → A x y → inside x ≡ inside y) where
@@ -92,3 +125,28 @@ module _ {S F : Type 0} (step : S → Next S F) where
       alike-within zero b c x y a e h = record { same-end = refl; same-count = refl; alike-state = a }
       alike-within (suc j) zero c x y a e h = absurd (omega arith)
       alike-within (suc j) (suc b) c x y a e h = alike-run-on j b c x y a (law x y a e) h (λ u v w i g. alike-within j b (suc c) u v w i g)
+
+      -- and one list of notes, where a step of alike states is noted alike
+      module _ {N : Type 0} (note : (before after : S) → N)
+          (same-note : (x y u v : S) → A x y → inside x ≡ true → A u v → note x u ≡ note y v) where
+        same-notes-on : (j b : ℕ) (x y : S) → A x y → inside x ≡ true → {p q : Next S F} → Alike-next A p q → suc j ≤ stretch-on b p (λ z. stretch b z) →
+            ((u v : S) → A u v → inside u ≡ true → j ≤ stretch b u → notes-from note j u ≡ notes-from note j v) →
+            notes-on note x p (λ z. notes-from note j z) ≡ notes-on note y q (λ z. notes-from note j z)
+        unfolding notes-from notes-on stretch-on
+        same-notes-on j b x y a e (both-stop f) h ih = refl
+        same-notes-on j b x y a e (both-end w) h ih = ap (λ z. z ∷ []) (same-note _ _ _ _ a e w)
+        same-notes-on j b x y a e (both-go-on {x = u} {y = v} w) h ih = ap₂ _∷_ (same-note _ _ _ _ a e w) (by-test (inside u) refl h)
+          where
+            no-notes : (j : ℕ) → j ≤ 0 → notes-from note j u ≡ notes-from note j v
+            no-notes zero l = refl
+            no-notes (suc j) l = absurd (omega arith)
+
+            by-test : (t : Bool) → inside u ≡ t → suc j ≤ cond t (suc (stretch b u)) 1 → notes-from note j u ≡ notes-from note j v
+            by-test true q l = ih u v w q (omega arith)
+            by-test false q l = no-notes j (omega arith)
+
+        pub same-notes : (j b : ℕ) (x y : S) → A x y → inside x ≡ true → j ≤ stretch b x → notes-from note j x ≡ notes-from note j y
+        unfolding notes-from stretch
+        same-notes zero b x y a e h = refl
+        same-notes (suc j) zero x y a e h = absurd (omega arith)
+        same-notes (suc j) (suc b) x y a e h = same-notes-on j b x y a e (law x y a e) h (λ u v w i g. same-notes j b u v w i g)

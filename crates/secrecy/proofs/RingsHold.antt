@@ -1,8 +1,8 @@
 -- Demand 3 proved: for every n from 1, every budget, and refused and faulting runs as well. Assumes nothing.
 use mathlib.Core.Path.{_≡_, refl, sym, _∙_, ap, ap₂, subst}
 use mathlib.Core.Bool.{true, not, _||_}
-use mathlib.Core.List.{List}
-use Prim.Native.Nat.{ℕ, zero, suc, _+_, _≤_}
+use mathlib.Core.List.{List, _++_}
+use Prim.Native.Nat.{ℕ, zero, suc, _+_, _≤_, _<_}
 use native.Mathlib.Nat.{le-refl}
 use native.Mathlib.Omega.{arith}
 use lib.Dec.{leb}
@@ -12,23 +12,24 @@ use Rattle.model.specs.Registers.{Registers, Machine, machine}
 use Rattle.model.specs.Questions.{ask, memory-fits, registers-in-range, rings-at-least, dbr-fits, start-questions}
 use Rattle.model.specs.Reach.{is-descriptor-word, segment-passes, observable-through, writable-through, observable, writable}
 use Rattle.model.specs.Run as Model
-use Rattle.model.specs.Run.{ran}
+use Rattle.model.specs.Run.{ran, unless-refused, single-count, total-of, total}
+use Rattle.model.specs.Listing.{step-lines, last-line, listing}
 use Rattle.model.proofs.BranchLaws.{and-left, and-right, or-left, or-right}
 use Rattle.model.proofs.QuestionLaws.{ask-yes, segment-known}
-use Rattle.secrecy.specs.Statement.{Agree, Descriptors-unwritable, Alike, Rings-hold}
+use Rattle.secrecy.specs.Statement.{Agree, Descriptors-unwritable, Alike, Rings-hold, Listings-alike}
 use Rattle.model.proofs.ReachLaws.{some-below-has}
 use Rattle.secrecy.proofs.Table.{is-descriptor-word-of}
 use Rattle.secrecy.proofs.View.{View, Views, no-change}
-use Rattle.secrecy.proofs.Lockstep.{Alike-ran, run-from, stretch}
-use Rattle.model.proofs.RunLaws.{run-refused}
-use Rattle.secrecy.proofs.Runs.{next, reply-of, ran-of, above, run-goes-ahead, after-goes-ahead, stretch-goes-ahead, after-refused, stretch-refused}
-use Rattle.secrecy.proofs.Plain.{Twin, twins-stretch, twins-run}
+use Rattle.secrecy.proofs.Lockstep.{Alike-ran, run-from, stretch, inside-before}
+use Rattle.model.proofs.RunLaws.{run-refused, trace-refused}
+use Rattle.secrecy.proofs.Runs.{next, reply-of, ran-of, above, run-goes-ahead, after-goes-ahead, trace-goes-ahead, stretch-goes-ahead, after-refused, stretch-refused}
+use Rattle.secrecy.proofs.Plain.{Twin, twin-count, twins-stretch, twins-run, twins-trace}
 
 -- 1 to 4 ask nothing of memory but its length
-pub same-start-questions : (r : Registers) (m k : List ℕ) → length m ≡ length k → start-questions (machine r m) ≡ start-questions (machine r k)
-unfolding start-questions machine
-same-start-questions r m k e =
-    ap (λ size. ask (memory-fits size) 1 (ask (registers-in-range r) 2 (ask (rings-at-least (r .ipr .ring) (r .prs)) 3 (ask (dbr-fits size (r .dbr)) 4 0)))) e
+pub same-start-questions : (m k : Machine) → m .registers ≡ k .registers → length (m .memory) ≡ length (k .memory) → start-questions m ≡ start-questions k
+unfolding start-questions
+same-start-questions m k same e =
+    ap₂ (λ r size. ask (memory-fits size) 1 (ask (registers-in-range r) 2 (ask (rings-at-least (r .ipr .ring) (r .prs)) 3 (ask (dbr-fits size (r .dbr)) 4 0)))) same e
 
 -- 4: the descriptor segment is within memory
 pub descriptors-within-memory : (m : Machine) → start-questions m ≡ 0 → m .registers .dbr .address + m .registers .dbr .length ≤ length (m .memory)
@@ -57,13 +58,15 @@ views-start n m e u =
 module _ (n b : ℕ) (r : Registers) (m k : List ℕ) (one : 1 ≤ n) (in-ring : n ≤ r .ipr .ring) (same-length : length m ≡ length k)
     (agree : Agree n (machine r m) m k) (unwritable : Descriptors-unwritable n (machine r m)) where
   alike-refused : (c : ℕ) → start-questions (machine r m) ≡ suc c → start-questions (machine r k) ≡ suc c → Alike n b r m k
-  unfolding ran machine Agree
+  unfolding ran machine Agree single-count unless-refused
   alike-refused c e d =
       let after-m = after-refused c (machine r m) e in
       let after-k = after-refused c (machine r k) d in
       record {
         same-stretch = stretch-refused n b c (machine r m) e ∙ sym (stretch-refused n b c (machine r k) d);
         same-reply = rw (run-refused _ c (machine r m) e, run-refused _ c (machine r k) d);
+        same-count = λ j h. rw (after-m j, after-k j, e, d);
+        same-trace = rw (trace-refused _ c (machine r m) e, trace-refused _ c (machine r k) d);
         same-registers = λ j h. rw (after-m j, after-k j);
         same-words = λ j h x o. rw (after-m j, after-k j) (agree x o);
         unchanged = λ j x h o. (rw (after-m j), rw (after-k j));
@@ -88,6 +91,14 @@ module _ (n b : ℕ) (r : Registers) (m k : List ℕ) (one : 1 ≤ n) (in-ring :
   after-twin e j h =
       twins-run n _ m k one j b 0 (machine r m) (machine r k) (start-twin e) start-above (subst (λ s. j ≤ s) (stretch-goes-ahead n b (machine r m) e) h)
 
+  count-twin : start-questions (machine r m) ≡ 0 → (j : ℕ) → j < Model.stretch n b (machine r m) →
+      single-count (run-from next j 0 (machine r m) .state) ≡ single-count (run-from next j 0 (machine r k) .state)
+  unfolding single-count
+  count-twin e j h =
+      let a = after-twin e j (omega arith) .alike-state in
+      let inside = inside-before next (above n) j b 0 (machine r m) start-above (subst (λ s. j < s) (stretch-goes-ahead n b (machine r m) e) h) in
+      ap₂ (λ q c. unless-refused q (λ z. 0) c) (same-start-questions _ _ (a .same-registers) (a .indistinct .same-length)) (twin-count n _ m k one a inside)
+
   alike-ahead : start-questions (machine r m) ≡ 0 → start-questions (machine r k) ≡ 0 → Alike n b r m k
   unfolding ran-of ran view-at Agree
   alike-ahead e d =
@@ -100,6 +111,10 @@ module _ (n b : ℕ) (r : Registers) (m k : List ℕ) (one : 1 ≤ n) (in-ring :
         same-reply =
             rw (← same, run-goes-ahead _ (machine r m) e, run-goes-ahead _ (machine r k) d)
             (ap₂ reply-of (w _ (le-refl _) .same-count) (w _ (le-refl _) .same-end));
+        same-count = λ j h. rw (after-m j, after-k j) (count-twin e j h);
+        same-trace =
+            rw (← same, trace-goes-ahead _ (machine r m) e, trace-goes-ahead _ (machine r k) d)
+            (twins-trace n _ m k one _ b _ _ (start-twin e) start-above (subst (λ s. Model.stretch n b (machine r m) ≤ s) (stretch-goes-ahead n b (machine r m) e) (le-refl _)));
         same-registers = λ j h. rw (after-m j, after-k j) (w j h .alike-state .same-registers);
         same-words = λ j h x o. rw (after-m j, after-k j) (w j h .alike-state .indistinct .agrees x o);
         unchanged = λ j x h o. (
@@ -108,9 +123,18 @@ module _ (n b : ℕ) (r : Registers) (m k : List ℕ) (one : 1 ≤ n) (in-ring :
         );
       }
 
+  same-start : start-questions (machine r m) ≡ start-questions (machine r k)
+  unfolding machine
+  same-start = same-start-questions (machine r m) (machine r k) refl same-length
+
   alike : (c : ℕ) → start-questions (machine r m) ≡ c → Alike n b r m k
-  alike zero e = alike-ahead e (sym (same-start-questions r m k same-length) ∙ e)
-  alike (suc c) e = alike-refused c e (sym (same-start-questions r m k same-length) ∙ e)
+  alike zero e = alike-ahead e (sym same-start ∙ e)
+  alike (suc c) e = alike-refused c e (sym same-start ∙ e)
 
 pub rings-hold : Rings-hold
 rings-hold n b r m k one in-ring same-length agree unwritable = alike n b r m k one in-ring same-length agree unwritable _ refl
+
+-- A listing has nothing beside the trace and the reply
+pub listings-alike : Listings-alike
+unfolding listing total
+listings-alike n b r m k a = ap₂ (λ t p. step-lines 0 t ++ last-line p (total-of t)) (a .same-trace) (a .same-reply)

@@ -1,6 +1,7 @@
 -- The model's runs and stretches are Lockstep's, with faults, halts and refusals. Assumes nothing.
 use mathlib.Core.Path.{_≡_, refl, _∙_, ap}
 use mathlib.Core.Bool.{Bool, true, false, not, cond}
+use mathlib.Core.List.{_∷_}
 use Prim.Native.Nat.{ℕ, zero, suc, _+_}
 use native.Mathlib.Omega.{arith}
 use lib.Dec.{ltb}
@@ -8,11 +9,11 @@ use Rattle.model.specs.Words.{Pointer}
 use Rattle.model.specs.Registers.{Machine}
 use Rattle.model.specs.Questions.{start-questions}
 use Rattle.model.specs.Program.{Outcome, faults, completes, halts}
-use Rattle.model.specs.Step.{step}
+use Rattle.model.specs.Step.{step, pointer-words}
 use Rattle.model.specs.Run as Model
-use Rattle.model.specs.Run.{Reply, ran, run, after, trace-on, trace-from, steps-to-below}
+use Rattle.model.specs.Run.{Reply, ran, run, after, Traced, traced, trace-on, trace-from, trace, steps-to-below}
 use Rattle.model.proofs.RunLaws.{run-goes, run-refused, trace-goes, trace-refused}
-use Rattle.secrecy.proofs.Lockstep.{Next, stops, goes-on, ends, End, spent, halted, fault, Ran, run-on, run-from, stretch-on, stretch}
+use Rattle.secrecy.proofs.Lockstep.{Next, stops, goes-on, ends, End, spent, halted, fault, Ran, run-on, run-from, notes-on, notes-from, stretch-on, stretch}
 
 -- THE MODEL'S RUNS ARE LOCKSTEP'S
 pub record Fault : Type 0 where
@@ -46,13 +47,27 @@ run-is-lockstep (suc n) c m = by-outcome (step m) (λ k. run-is-lockstep n (suc 
     by-outcome (completes k) ih = ih k
     by-outcome (halts k) ih = refl
 
+unfoldable pub note : (before after : Machine) → Traced
+note m k = traced k (pointer-words m)
+
+pub trace-is-lockstep : (left : ℕ) (m : Machine) → trace-from left m ≡ notes-from next note left m
+unfolding trace-from trace-on notes-from notes-on note next next-of
+trace-is-lockstep zero m = refl
+trace-is-lockstep (suc n) m = by-outcome (step m) (λ k. trace-is-lockstep n k)
+  where
+    by-outcome : (o : Outcome) → ((k : Machine) → trace-from n k ≡ notes-from next note n k) →
+        trace-on (pointer-words m) o (λ k. trace-from n k) ≡ notes-on next note m (next-of o) (λ k. notes-from next note n k)
+    by-outcome (faults n t) ih = refl
+    by-outcome (completes k) ih = ap (λ ts. note m k ∷ ts) (ih k)
+    by-outcome (halts k) ih = refl
+
 -- inside the stretch: in ring n or above
 unfoldable pub above : (ring : ℕ) → Machine → Bool
 above n m = not (ltb (m .registers .ipr .ring) n)
 
 pub stretch-is-lockstep : (n budget count : ℕ) (m : Machine) →
     steps-to-below n count (count + budget) (trace-from budget m) ≡ count + stretch next (above n) budget m
-unfolding steps-to-below trace-from trace-on stretch stretch-on next next-of above
+unfolding steps-to-below trace-from trace-on traced stretch stretch-on next next-of above
 stretch-is-lockstep n zero c m = refl
 stretch-is-lockstep n (suc b) c m = by-outcome (step m) (λ k. stretch-is-lockstep n b (suc c) k)
   where
@@ -69,7 +84,7 @@ stretch-is-lockstep n (suc b) c m = by-outcome (step m) (λ k. stretch-is-lockst
 
     by-outcome : (o : Outcome) →
         ((k : Machine) → steps-to-below n (suc c) (suc c + b) (trace-from b k) ≡ suc c + stretch next (above n) b k) →
-        steps-to-below n c (c + suc b) (trace-on o (λ k. trace-from b k)) ≡ c + stretch-on next (above n) b (next-of o) (λ k. stretch next (above n) b k)
+        steps-to-below n c (c + suc b) (trace-on (pointer-words m) o (λ k. trace-from b k)) ≡ c + stretch-on next (above n) b (next-of o) (λ k. stretch next (above n) b k)
     by-outcome (faults n t) ih = refl
     by-outcome (completes k) ih = completes-at k (ltb (k .registers .ipr .ring) n) (ih k)
     by-outcome (halts k) ih = halts-at k (ltb (k .registers .ipr .ring) n)
@@ -81,6 +96,9 @@ run-goes-ahead b m e = run-goes b m e ∙ run-is-lockstep b 0 m
 pub after-goes-ahead : (m : Machine) → start-questions m ≡ 0 → (j : ℕ) → after j m ≡ run-from next j 0 m .state
 unfolding after ran-of ran
 after-goes-ahead m e j = ap (λ x. x .machine) (run-goes-ahead j m e)
+
+pub trace-goes-ahead : (b : ℕ) (m : Machine) → start-questions m ≡ 0 → trace b m ≡ notes-from next note b m
+trace-goes-ahead b m e = trace-goes b m e ∙ trace-is-lockstep b m
 
 pub stretch-goes-ahead : (n b : ℕ) (m : Machine) → start-questions m ≡ 0 → Model.stretch n b m ≡ stretch next (above n) b m
 unfolding Model.stretch

@@ -1,7 +1,7 @@
 -- Every program that asks from ring n up treats two machines alike that agree on what rings from n up observe. No opcode is named here. Assumes nothing.
 use mathlib.Core.Path.{_≡_, refl, sym, _∙_, ap, subst}
 use mathlib.Core.Bool.{Bool, true, false, _||_}
-use Prim.Native.Nat.{ℕ, _≤_, _<_}
+use Prim.Native.Nat.{ℕ, suc, _≤_, _<_}
 use lib.Dec.{eqb}
 use lib.ListN.{length, getD, set}
 use lib.Seq.{getD-set-same, getD-set-other}
@@ -9,13 +9,13 @@ use borrow.Author.Tests.{eqb-true, eqb-false, eq-eqb, le-leb}
 use Rattle.model.specs.Words.{Descriptor, Pointer}
 use Rattle.model.specs.Registers.{Dbr, Machine, machine}
 use Rattle.model.specs.Questions.{Question}
-use Rattle.model.specs.Program.{Program, fail, finish, halt, look, read, write, descriptor-of, absolute-address, word-at, execute}
+use Rattle.model.specs.Program.{Program, fail, finish, halt, look, read, tick, write, descriptor-of, absolute-address, word-at, execute, ticks}
 use Rattle.model.specs.Reach.{segment-passes, observable-through, writable-through}
 use Rattle.model.proofs.BranchLaws.{and-both}
 use Rattle.model.proofs.QuestionLaws.{use-passes-segment}
 use Rattle.model.proofs.ProgramLaws.{use-passes, answer-passes, address-within-memory}
 use Rattle.secrecy.proofs.Table.{Same-table, use-passes-known, use-passes-covers, same-descriptor, same-use-answer, same-absolute-address}
-use Rattle.secrecy.proofs.View.{View, Agrees, Indistinct, no-change, set-changes, Related, both-fault, both-complete, or-fault-related}
+use Rattle.secrecy.proofs.View.{View, Agrees, Indistinct, no-change, set-changes, Related, both-fault, both-complete, or-fault-related, unless-fault-same}
 
 -- PROGRAMS THAT ASK FROM RING n UP: a passed question lets a ring from n up read, or write, that segment; DBR b is kept, and the run goes on
 unfoldable pub May-read : (ring : ℕ) → Question → Type 0
@@ -30,6 +30,7 @@ High n b (finish r) = b ≡ r .dbr
 High n b (halt r) = ⊥
 High n b (look q t f) = (d : Descriptor) → q d ≡ 0 → High n b (f d)
 High n b (read q t f) = May-read n q × ((d : Descriptor) (w : ℕ) → q d ≡ 0 → High n b (f d w))
+High n b (tick p) = High n b p
 High n b (write q t w r) = May-write n q × (b ≡ r .dbr)
 
 module _ {n : ℕ} {v : View} {m k : Machine} (i : Indistinct n v m k) where
@@ -99,6 +100,7 @@ module _ {n : ℕ} {v : View} {m k : Machine} (i : Indistinct n v m k) where
       let y = h .0 (descriptor-of m (t .segment)) (z .1) in
       rw (← (same-descriptor-used t (z .0)), ← (same-word t (z .0) (y .0) (y .1)))
       (secret (f (descriptor-of m (t .segment)) (word-at m t)) (h .1 _ _ (z .1))))
+  secret (tick p) h = secret p h
   secret (write q t w r) h =
       or-fault-related t (same-use-answer indistinct-table t q)
       (λ e.
@@ -113,3 +115,24 @@ module _ {n : ℕ} {v : View} {m k : Machine} (i : Indistinct n v m k) where
         changed-k = set-changes v (k .memory) (absolute-address m t) w o;
         agrees = set-agrees (absolute-address m t) w (address-within-memory m t (z .0));
       }))
+
+  -- and as many pointer words are read
+  pub same-ticks : (p : Program) → High n (m .registers .dbr) p → ticks m p ≡ ticks k p
+  unfolding ticks High May-read
+  same-ticks (fail c t) h = refl
+  same-ticks (finish r) h = refl
+  same-ticks (halt r) h = refl
+  same-ticks (look q t f) h =
+      unless-fault-same (same-use-answer indistinct-table t q)
+      (λ e.
+      let z = answer-passes m t q e in
+      rw (← (same-descriptor-used t (z .0))) (same-ticks (f (descriptor-of m (t .segment))) (h _ (z .1))))
+  same-ticks (read q t f) h =
+      unless-fault-same (same-use-answer indistinct-table t q)
+      (λ e.
+      let z = answer-passes m t q e in
+      let y = h .0 (descriptor-of m (t .segment)) (z .1) in
+      rw (← (same-descriptor-used t (z .0)), ← (same-word t (z .0) (y .0) (y .1)))
+      (same-ticks (f (descriptor-of m (t .segment)) (word-at m t)) (h .1 _ _ (z .1))))
+  same-ticks (tick p) h = ap suc (same-ticks p h)
+  same-ticks (write q t w r) h = refl

@@ -7,7 +7,7 @@ use lib.ListN.{length, getD, set, length-set}
 use lib.Seq.{getD-set-other}
 use Rattle.model.specs.Words.{Pointer}
 use Rattle.model.specs.Registers.{Dbr, Machine}
-use Rattle.model.specs.Program.{Outcome, faults, completes, or-fault}
+use Rattle.model.specs.Program.{Outcome, faults, completes, or-fault, unless-fault}
 use Rattle.model.specs.Reach.{observable-through, writable-through}
 use Rattle.secrecy.proofs.Table.{Same-table, same-observable-through, same-writable-through}
 
@@ -99,3 +99,11 @@ or-fault-related {v} {m} {k} {c} {d} t {x} {y} p f = subst (λ z. Related v m k 
     by-answer : (c : ℕ) → (c ≡ 0 → Related v m k x y) → Related v m k (or-fault c t x) (or-fault c t y)
     by-answer zero f = f refl
     by-answer (suc c) f = both-fault (suc c) t
+
+pub unless-fault-same : {c d x y : ℕ} → c ≡ d → (c ≡ 0 → x ≡ y) → unless-fault c x ≡ unless-fault d y
+unfolding unless-fault
+unless-fault-same {c} {d} {x} {y} p f = subst (λ z. unless-fault c x ≡ unless-fault z y) p (by-answer c f)
+  where
+    by-answer : (c : ℕ) → (c ≡ 0 → x ≡ y) → unless-fault c x ≡ unless-fault c y
+    by-answer zero f = f refl
+    by-answer (suc c) f = refl

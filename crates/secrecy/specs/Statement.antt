@@ -2,11 +2,12 @@
 use mathlib.Core.Path.{_≡_}
 use mathlib.Core.Bool.{true, false, _||_}
 use mathlib.Core.List.{List}
-use Prim.Native.Nat.{ℕ, _≤_}
+use Prim.Native.Nat.{ℕ, _≤_, _<_}
 use lib.ListN.{length, getD}
 use Rattle.model.specs.Registers.{Registers, Machine, machine}
 use Rattle.model.specs.Reach.{is-descriptor-word, observable, writable}
-use Rattle.model.specs.Run.{run, after, stretch}
+use Rattle.model.specs.Run.{run, after, single-count, trace, stretch}
+use Rattle.model.specs.Listing.{listing}
 
 -- the two memories have the same descriptor words and the same words that some ring at or above n can read or execute;
 -- which words these are is judged by DBR and the descriptor words at the start
@@ -24,6 +25,10 @@ pub record Alike (n b : ℕ) (r : Registers) (m k : List ℕ) : Type 0 where
   pub same-stretch : stretch n b (machine r m) ≡ stretch n b (machine r k)
   -- and answer alike, the count of completed steps included
   pub same-reply : run (stretch n b (machine r m)) (machine r m) .reply ≡ run (stretch n b (machine r k)) (machine r k) .reply
+  -- step by step they read as many pointer words, a faulting step too (02, L2)
+  pub same-count : (j : ℕ) → j < stretch n b (machine r m) → single-count (after j (machine r m)) ≡ single-count (after j (machine r k))
+  -- and have one trace: IPR and that count of each completed step
+  pub same-trace : trace (stretch n b (machine r m)) (machine r m) ≡ trace (stretch n b (machine r k)) (machine r k)
   -- after each of their steps, and at the end: the same registers
   pub same-registers : (j : ℕ) → j ≤ stretch n b (machine r m) → after j (machine r m) .registers ≡ after j (machine r k) .registers
   -- agreement on the same words again
@@ -39,6 +44,12 @@ abbrev pub Rings-hold : Type 0
 Rings-hold =
     (n b : ℕ) (r : Registers) (m k : List ℕ) → 1 ≤ n → n ≤ r .ipr .ring → length m ≡ length k → Agree n (machine r m) m k →
     Descriptors-unwritable n (machine r m) → Alike n b r m k
+
+-- so both print one text, all that a laboratory has on paper
+abbrev pub Listings-alike : Type 0
+Listings-alike =
+    (n b : ℕ) (r : Registers) (m k : List ℕ) → Alike n b r m k →
+    listing (stretch n b (machine r m)) (machine r m) ≡ listing (stretch n b (machine r k)) (machine r k)
 
 -- it makes no odds that m judges and not k: both judge alike
 abbrev pub Judged-alike : Type 0

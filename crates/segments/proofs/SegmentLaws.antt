@@ -1,15 +1,12 @@
 -- A word of a segment's own words is the word at its address. Assumes nothing.
 use mathlib.Core.Path.{_≡_, _∙_, ap}
-use mathlib.Core.Bool.{Bool, _&&_}
 use mathlib.Core.List.{List}
 use Prim.Native.Nat.{ℕ, _+_, _-_, _≤_, _<_}
 use native.Mathlib.Nat.{add-sub-cancel-left}
 use native.Mathlib.Omega.{arith}
 use lib.ListN.{length, getD, set, take, drop, length-take, length-drop}
 use lib.Seq.{getD-drop, getD-take}
-use lib.Dec.{leb}
 use Rattle.model.specs.Words.{field, descriptor-in}
-use Rattle.model.specs.Questions.{may-execute, may-read, may-write}
 use Rattle.segments.specs.Translation.{word-through}
 
 module _ (m s : List ℕ) (b n i : ℕ) (e : s ≡ take n (drop b m)) (h : i < n) where
@@ -36,20 +33,3 @@ pub store-at : (m : List ℕ) (i a x v : ℕ) → i ≡ a → a ≡ x → set m 
 store-at m i a x v e f = ap (λ z. set m z v) (e ∙ f)
 
 pub ruleset parts = (word-in-part, word-of-part, word-below, store-at)
-
--- 21 to 23 and 25, from the fields that the code takes out; the pointer is written out, so that a test shows its ring
-module _ (n s i d : ℕ) (b : Bool) where
-  pub executable-law : (r1 r2 : ℕ) → b ≡ descriptor-in d .execute → r1 ≡ descriptor-in d .r1 → r2 ≡ descriptor-in d .r2 →
-      b && (leb r1 n && leb n r2) ≡ may-execute (record { ring = n; segment = s; word = i }) (descriptor-in d)
-  unfolding may-execute
-  executable-law r1 r2 e f g = rw (e, f, g)
-
-  pub readable-law : (r2 : ℕ) → b ≡ descriptor-in d .read → r2 ≡ descriptor-in d .r2 → b && leb n r2 ≡ may-read (record { ring = n; segment = s; word = i }) (descriptor-in d)
-  unfolding may-read
-  readable-law r2 e g = rw (e, g)
-
-  pub writable-law : (r1 : ℕ) → b ≡ descriptor-in d .write → r1 ≡ descriptor-in d .r1 → b && leb n r1 ≡ may-write (record { ring = n; segment = s; word = i }) (descriptor-in d)
-  unfolding may-write
-  writable-law r1 e f = rw (e, f)
-
-pub ruleset tests = (executable-law, readable-law, writable-law)

@@ -8,7 +8,8 @@ use Rattle.model.specs.Words as Words
 use Rattle.model.specs.Words.{Pointer, descriptor-in}
 use Rattle.model.specs.Registers.{Dbr, Registers, Machine, machine}
 use Rattle.model.specs.Questions.{then-ask, Question}
-use Rattle.model.specs.Program.{Program, look, read, write, Outcome, faults, completes, execute, descriptor-of, absolute-address, word-at, use-answer, or-fault}
+use Rattle.model.specs.Program.{Program, look, read, write, Outcome, faults, completes, execute, descriptor-of, absolute-address, word-at, use-answer, or-fault, ticks}
+use Rattle.model.proofs.TickLaws.{unless-fault-no, unless-fault-yes}
 use Rattle.model.proofs.ProgramLaws.{or-fault-no, or-fault-yes}
 use Rattle.words.specs.declared.descriptor.Descriptor.{Descriptor}
 use Rattle.segments.proofs.TranslateLaws.{then-ask-no}
@@ -120,6 +121,17 @@ module _ (m : Machine) (t : Pointer) (q : Question) where
     unfolding execute
     read-passed d w e =
         let h = rw e at s in yes-goes-on (d .0) (h .looks) _ ∙ rw (descriptor-here (d .0) (h .looks), word-here (d .0) (h .looks), ← (h .word-same))
+
+    pub read-refused-counts : (n : ℕ) → x ≡ Accessed.Refused n → ticks m (read q t f) ≡ 0
+    unfolding ticks
+    read-refused-counts n e = let h = rw e at s in unless-fault-no (use-answer m t q) _ (rw (use-answer-by m t q ∙ h .0) (h .1))
+
+    pub read-passed-counts : (d : Descriptor) (w : ℕ) → x ≡ Accessed.Word d w → ticks m (read q t f) ≡ ticks m (f (descriptor-in (d .0)) w)
+    unfolding ticks
+    read-passed-counts d w e =
+        let h = rw e at s in
+        unless-fault-yes (use-answer m t q) _ (use-answer-by m t q ∙ looks-passes (m .registers .dbr) (m .memory) t q (d .0) (h .looks))
+        ∙ rw (descriptor-here (d .0) (h .looks), word-here (d .0) (h .looks), ← (h .word-same))
 
   module _ (v n : ℕ) (m-now : List ℕ) (s : Writes (m .registers .dbr) (m .memory) t q v n m-now) (r : Registers) where
     pub write-faults : (n ≡ 0 → ⊥) → execute m (write q t v r) ≡ faults n t

@@ -7,14 +7,16 @@ use lib.ListN.{length, getD, set}
 use Rattle.model.specs.Words as Words
 use Rattle.model.specs.Words.{descriptor-in}
 use Rattle.model.specs.Registers as Registers
-use Rattle.model.specs.Questions.{Question, then-ask, segment-questions, use-questions, may-execute, fetch-questions, read-questions, write-questions, transfer-questions, return-questions, call-questions}
+use Rattle.model.specs.Questions.{Question, then-ask, segment-questions, use-questions, may-execute}
 use Rattle.words.specs.declared.descriptor.Descriptor.{Descriptor}
-use Rattle.segments.specs.declared.questions.Use.{Use}
-use Rattle.segments.specs.declared.questions.Use.the-variants as Use
+use Rattle.segments.specs.declared.translate.Dbr.{Dbr}
 use Rattle.segments.specs.declared.translate.Translated.{Translated}
 use Rattle.segments.specs.declared.translate.Translated.the-variants.{Refused, Passed}
 use Rattle.segments.specs.declared.access.Accessed.{Accessed}
 use Rattle.segments.specs.declared.access.Accessed.the-variants as Accessed
+
+abbrev pub as-dbr : Dbr → Registers.Dbr
+as-dbr d = record { address = d .address; length = d .length }
 
 -- the model's `descriptor-of` reads a machine's DBR and memory and nothing else
 unfoldable pub descriptor-word : Registers.Dbr → (memory : List ℕ) → (segment : ℕ) → ℕ
@@ -26,15 +28,6 @@ descriptor-at b m s = descriptor-in (descriptor-word b m s)
 -- 12 to 14 of a descriptor's word: the questions on a segment that 11 lets by
 unfoldable pub descriptor-answer : (size word : ℕ) → ℕ
 descriptor-answer n w = segment-questions n (record { address = 0; length = 1 }) 0 (descriptor-in w)
-
--- what a use by the instruction at ipr asks then
-abbrev pub questions-of : Use → (ipr t : Words.Pointer) → Question
-questions-of Use.Fetch ipr t = fetch-questions t
-questions-of Use.Read ipr t = read-questions t
-questions-of Use.Write ipr t = write-questions t
-questions-of Use.Transfer ipr t = transfer-questions ipr t
-questions-of Use.Return ipr t = return-questions t
-questions-of Use.Call ipr t = call-questions ipr t
 
 -- 11 to 15, then the questions of the use
 unfoldable pub use-at : Registers.Dbr → (memory : List ℕ) → Words.Pointer → ℕ

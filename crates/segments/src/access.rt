@@ -3,11 +3,11 @@ ghost use Prim.Native.Nat.{_+_, _≤_};
 ghost use lib.ListN.{length};
 ghost use Rattle.model.specs.Questions.{write-questions};
 ghost use Rattle.words.specs.View.{as-pointer};
-ghost use Rattle.segments.specs.View.{as-dbr};
-ghost use Rattle.segments.specs.Translation.{questions-of, looked, accessed, Writes};
-use crate::questions::Use;
+ghost use Rattle.questions.specs.Use.{questions-of};
+ghost use Rattle.segments.specs.Translation.{as-dbr, looked, accessed, Writes};
 use crate::translate::Dbr;
 use crate::translate::Translated;
+use questions::Use;
 use words::descriptor::Descriptor;
 use words::pointer::Pointer;
 
@@ -25,7 +25,7 @@ pub fn look(by: Use, dbr: Dbr, memory: &[u64], ipr: Pointer, t: Pointer) -> Tran
     match crate::translate::translate(dbr, memory, t) {
         Translated::Refused(n) => Translated::Refused(n),
         Translated::Passed(d) => {
-            let n = crate::questions::use_answer(by, ipr, t, d);
+            let n = questions::use_answer(by, ipr, t, d);
             if n != 0 {
                 return Translated::Refused(n);
             }

@@ -3,8 +3,7 @@ ghost use mathlib.Core.Path.{_≡_};
 ghost use Prim.Native.Nat.{_+_, _≤_};
 ghost use lib.ListN.{length};
 ghost use Rattle.words.specs.View.{as-pointer};
-ghost use Rattle.segments.specs.View.{as-dbr};
-ghost use Rattle.segments.specs.Translation.{descriptor-answer, translated};
+ghost use Rattle.segments.specs.Translation.{as-dbr, descriptor-answer, translated};
 use words::descriptor::Descriptor;
 use words::pointer::Pointer;
 

@@ -2,7 +2,7 @@
 ghost use mathlib.Core.Path.{_≡_};
 ghost use lib.ListN.{replicate};
 ghost use Rattle.model.specs.Questions.{start-questions};
-ghost use Rattle.segments.specs.View.{as-machine};
+ghost use Rattle.state.specs.View.{as-machine};
 ghost use Rattle.simulate.specs.Read.{Ready-within};
 use chunks::Line;
 use host::record::Registers;
@@ -10,7 +10,7 @@ use image::load::LoadOutcome;
 use image::load::Loaded;
 use libc::STDOUT_FILENO;
 use listing::Listed;
-use segments::state::Core;
+use state::Core;
 
 // Reads and loads until an image is whole or refused; `More` means that the input can't be read.
 fn read_image(store: &mut [u64]) -> Loaded
@@ -19,7 +19,7 @@ fn read_image(store: &mut [u64]) -> Loaded
 {
     let mut buffer = io::large_buffer();
     let mut x = Loaded {
-        loading: records::loading::nothing_loaded(false),
+        loading: loading::nothing_loaded(false),
         outcome: LoadOutcome::More(0),
     };
     let mut kept = 0;
@@ -60,12 +60,21 @@ fn print_listing(core: Core, start: [u16; 24], memory: &mut [u64], budget: u32)
             core,
             length: 0,
             is_last: false,
+            total: 0,
         },
         count: 0,
     };
     let mut turns = u64::MAX;
     while turns > 0 {
-        x = listing::list(x.line.core, &mut prs, memory, x.count, budget, &mut text);
+        x = listing::list(
+            x.line.core,
+            &mut prs,
+            memory,
+            x.count,
+            x.line.total,
+            budget,
+            &mut text,
+        );
         let size = x.line.length;
         if !io::write_all(STDOUT_FILENO, &text[..size]) {
             return;
@@ -89,7 +98,7 @@ fn run_image(registers: Registers, memory: &mut [u64], budget: u32) {
 }
 
 fn main() {
-    let mut store = records::loading::empty_store();
+    let mut store = loading::empty_store();
     let x = read_image(&mut store);
     let loading = x.loading;
     let outcome = x.outcome;

@@ -28,6 +28,6 @@ pub fn read_piece(buffer: &mut [u8], kept: usize) -> Piece
 
 pub fn print_refusal(number: u8) {
     let mut text = [0u8; 64];
-    let size = lines::put_last_line(&mut text, 0, Reply::Refused(number));
+    let size = endings::put_last_line(&mut text, 0, Reply::Refused(number), 0);
     io::write_all(STDOUT_FILENO, &text[..size]);
 }

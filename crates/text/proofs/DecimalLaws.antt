@@ -62,7 +62,7 @@ pub decimal-digit : (v : ℕ) → v < 10 → decimal v ≡ (48 + v) ∷ []
 unfolding decimal
 decimal-digit v h = digits-one 19 v [] h
 
-pub decimal-last : (v : ℕ) → 10 ≤ v → v < 4294967296 → decimal v ≡ decimal (v / 10) ++ ((48 + v % 10) ∷ [])
+pub decimal-last : (v : ℕ) → 10 ≤ v → v < 18446744073709551616 → decimal v ≡ decimal (v / 10) ++ ((48 + v % 10) ∷ [])
 unfolding decimal
 decimal-last v l h =
     digits-more 19 v [] l ∙ digits-append 19 (v / 10) [] ((48 + v % 10) ∷ [])
@@ -76,7 +76,7 @@ pub length-decimal : (k v : ℕ) → k < 20 → 10 ^ k ≤ v → v < 10 ^ suc k 
 unfolding decimal
 length-decimal k v r l h = sym (length-digits k 20 v [] r l h ∙ omega arith)
 
-pub length-decimal-tenth : (v : ℕ) → 10 ≤ v → v < 4294967296 → length (decimal v) ≡ length (decimal (v / 10)) + 1
+pub length-decimal-tenth : (v : ℕ) → 10 ≤ v → v < 18446744073709551616 → length (decimal v) ≡ length (decimal (v / 10)) + 1
 length-decimal-tenth v l h = ap length (decimal-last v l h) ∙ length-append (decimal (v / 10)) ((48 + v % 10) ∷ [])
 
 length-digits-least : (n v : ℕ) (ds : List ℕ) → length ds ≤ length (digits n v ds)

@@ -64,3 +64,16 @@ pub fn put_decimal(text: &mut [u8], at: usize, v: u32) -> usize
     put_digits(text, at, end, v);
     end
 }
+
+// The same of a wider number: the digits past the narrow ones one by one.
+pub fn put_decimal_64(text: &mut [u8], at: usize, v: u64) -> usize
+    requires { ⌜ at + 20 ≤ length (now text) ⌝ }
+    ensures { λ r. ⌜ Put 20 at (decimal v) (now (text .entry)) (now (text .exit)) r ⌝ }
+{
+    if v < 4294967296 {
+        return put_decimal(text, at, v as u32);
+    }
+    let end = put_decimal_64(text, at, v / 10);
+    text[end] = (48 + v % 10) as u8;
+    end + 1
+}

@@ -7,7 +7,7 @@ use Rattle.addressing.proofs.ChainLaws.{chains}
 use Rattle.addressing.proofs.effective.Statement.{statement}
 use Rattle.addressing.proofs.effective.Tie as tie
 use Rattle.addressing.specs.Address.{through}
-use Rattle.segments.specs.View.{as-dbr}
+use Rattle.segments.specs.Translation.{as-dbr}
 use Rattle.words.specs.View.{as-pointer, Pointer-within}
 
 abbrev Inv-loop : tie.InvT-loop
@@ -31,6 +31,9 @@ read-requires c κs = search (needs, chains)
 enum-known-n : tie.Need-enum-known-n Inv-loop μ-loop
 enum-known-n c = search (needs, chains)
 
+sub-t13 : tie.Need-sub-t13 Inv-loop μ-loop
+sub-t13 c = search (needs, chains)
+
 returns-2 : tie.Need-returns-2 Inv-loop μ-loop
 returns-2 c = search (needs, chains)
 
@@ -52,6 +55,9 @@ loop-less c = search (needs, chains)
 loop-again : tie.Need-loop-again Inv-loop μ-loop
 loop-again c = search (needs, chains)
 
+sub-t14 : tie.Need-sub-t14 Inv-loop μ-loop
+sub-t14 c = search (needs, chains)
+
 returns-3 : tie.Need-returns-3 Inv-loop μ-loop
 returns-3 c = search (needs, chains)
 
@@ -65,6 +71,7 @@ effective-spec =
     returns
     read-requires
     enum-known-n
+    sub-t13
     returns-2
     enum-known-d
     next-address-requires
@@ -72,4 +79,5 @@ effective-spec =
     sub-left
     loop-less
     loop-again
+    sub-t14
     returns-3)

@@ -7,6 +7,9 @@ use Rattle.chunks.proofs.list_chunk.Tie as tie
 put-chunk-requires : tie.Need-put-chunk-requires
 put-chunk-requires c κs = search needs
 
+add-sum : tie.Need-add-sum
+add-sum c = search (needs, chunks)
+
 put-ending-requires : tie.Need-put-ending-requires
 put-ending-requires c κs = search needs
 
@@ -21,4 +24,4 @@ returns c = search (needs, chunks)
 
 pub list-chunk-spec : {M : Type 1} → statement M
 list-chunk-spec =
-    tie.close (tie.spec put-chunk-requires put-ending-requires same-length same-length-2 returns)
+    tie.close (tie.spec put-chunk-requires add-sum put-ending-requires same-length same-length-2 returns)

@@ -1,6 +1,6 @@
 -- `put_chunk` meets its contract. Assumes nothing.
 use borrow.Author.Needs.{needs}
-use Rattle.chunks.proofs.ChunkLaws.{steps-have-room, steps-traced, steps-fit, chunk-written}
+use Rattle.chunks.proofs.ChunkLaws.{steps-have-room, steps-traced, steps-fit, steps-few, chunk-written}
 use Rattle.chunks.proofs.put_chunk.Statement.{statement}
 use Rattle.chunks.proofs.put_chunk.Tie as tie
 
@@ -20,7 +20,7 @@ steps-of-requires : tie.Need-steps-of-requires
 steps-of-requires c κs = search needs
 
 put-steps-requires : tie.Need-put-steps-requires
-put-steps-requires c κs = (steps-have-room _ _ _ _ _ _ _ _ _ (c .before .before .before .before .before .before .before .before .run .ensures) (c .before .before .before .before .before .before .before .before .before .before .before .before .before .before .pre .0) _ (c .before .before .before .before .reply-of .ensures) _ (c .steps-of .ensures) _ _ (c .before .before .before .before .before .before .before .before .before .before .before .before .before .before .pre .1), steps-traced _ _ _ _ _ _ _ _ _ (c .before .before .before .before .before .before .before .before .run .ensures) (c .before .before .before .before .before .before .before .before .before .before .before .before .before .before .pre .0) _ (c .before .before .before .before .reply-of .ensures) _ (c .steps-of .ensures) (search needs), steps-fit _ _ _ _ _ _ _ _ _ (c .before .before .before .before .before .before .before .before .run .ensures) (c .before .before .before .before .before .before .before .before .before .before .before .before .before .before .pre .0) _ (c .before .before .before .before .reply-of .ensures) _ (c .steps-of .ensures) _ (c .before .before .before .before .before .before .before .before .before .before .before .before .before .before .pre .3))
+put-steps-requires c κs = (steps-have-room _ _ _ _ _ _ _ _ _ (c .before .before .before .before .before .before .before .before .run .ensures) (c .before .before .before .before .before .before .before .before .before .before .before .before .before .before .pre .0) _ (c .before .before .before .before .reply-of .ensures) _ (c .steps-of .ensures) _ _ (c .before .before .before .before .before .before .before .before .before .before .before .before .before .before .pre .1), steps-traced _ _ _ _ _ _ _ _ _ (c .before .before .before .before .before .before .before .before .run .ensures) (c .before .before .before .before .before .before .before .before .before .before .before .before .before .before .pre .0) _ (c .before .before .before .before .reply-of .ensures) _ (c .steps-of .ensures) (search needs), steps-fit _ _ _ _ _ _ _ _ _ (c .before .before .before .before .before .before .before .before .run .ensures) (c .before .before .before .before .before .before .before .before .before .before .before .before .before .before .pre .0) _ (c .before .before .before .before .reply-of .ensures) _ (c .steps-of .ensures) _ (c .before .before .before .before .before .before .before .before .before .before .before .before .before .before .pre .3), steps-few _ _ _ _ _ _ _ _ _ (c .before .before .before .before .before .before .before .before .run .ensures) (c .before .before .before .before .before .before .before .before .before .before .before .before .before .before .pre .0) _ (c .before .before .before .before .reply-of .ensures) _ (c .steps-of .ensures) (search needs))
 
 same-length : tie.Need-same-length
 same-length c = search needs

@@ -16,8 +16,8 @@ enum-known-reply-2 c = search needs
 enum-known-reply-3 : tie.Need-enum-known-reply-3
 enum-known-reply-3 c = search needs
 
-add-t19 : tie.Need-add-t19
-add-t19 c = search (needs, endings)
+add-t20 : tie.Need-add-t20
+add-t20 c = search (needs, endings)
 
 put-last-line-requires-2 : tie.Need-put-last-line-requires-2
 put-last-line-requires-2 c κs = search needs
@@ -25,8 +25,8 @@ put-last-line-requires-2 c κs = search needs
 enum-known-reply-4 : tie.Need-enum-known-reply-4
 enum-known-reply-4 c = search needs
 
-add-t24 : tie.Need-add-t24
-add-t24 c = search (needs, endings)
+add-t25 : tie.Need-add-t25
+add-t25 c = search (needs, endings)
 
 put-last-line-requires-3 : tie.Need-put-last-line-requires-3
 put-last-line-requires-3 c κs = search (needs, endings)
@@ -60,10 +60,10 @@ put-ending-spec =
     put-last-line-requires
     enum-known-reply-2
     enum-known-reply-3
-    add-t19
+    add-t20
     put-last-line-requires-2
     enum-known-reply-4
-    add-t24
+    add-t25
     put-last-line-requires-3
     same-length
     returns

@@ -4,7 +4,7 @@ use Prim.Native.Nat.{_+_, _-_, _*_, _≤_}
 use lib.ListN.{length, take}
 use borrow.Author.Needs.{needs}
 use Rattle.model.specs.Listing.{step-lines}
-use Rattle.run.specs.Run.{noted-pointers}
+use Rattle.run.specs.Run.{noted-steps}
 use Rattle.text.specs.Text.{placed}
 use Rattle.lines.specs.Kept.{Kept}
 use Rattle.chunks.proofs.ChunkLaws.{line-put, line-long, lines-of-steps}
@@ -13,8 +13,8 @@ use Rattle.chunks.proofs.put_steps.Tie as tie
 
 abbrev Inv-loop : tie.InvT-loop
 Inv-loop text₀ at count trace steps tens₀ number₀ end₀ i₀ text tens number end i =
-    (i ≤ steps) × (length text ≡ length text₀) × (text ≡ placed at (step-lines count (noted-pointers (take i trace))) text₀)
-    × (end ≡ at + length (step-lines count (noted-pointers (take i trace)))) × (end ≤ at + 64 * i) × Kept tens number × (number .value ≡ count + i)
+    (i ≤ steps) × (length text ≡ length text₀) × (text ≡ placed at (step-lines count (noted-steps (take i trace))) text₀)
+    × (end ≡ at + length (step-lines count (noted-steps (take i trace)))) × (end ≤ at + 64 * i) × Kept tens number × (number .value ≡ count + i)
 
 abbrev μ-loop : tie.MeasureT-loop
 μ-loop text₀ at count trace steps tens₀ number₀ end₀ i₀ text tens number end i = steps - i

@@ -5,7 +5,7 @@ use borrow.Author.Needs.{needs}
 use Rattle.control.proofs.RaiseLaws.{raised-first, raises}
 use Rattle.control.proofs.raise_rings.Statement.{statement}
 use Rattle.control.proofs.raise_rings.Tie as tie
-use Rattle.segments.specs.View.{as-pointers}
+use Rattle.state.specs.View.{as-pointers}
 
 abbrev Inv-loop : tie.InvT-loop
 Inv-loop prs₀ ring k₀ prs k = (k ≤ 8) × (as-pointers prs ≡ raised-first ring k (as-pointers prs₀))

@@ -1,7 +1,8 @@
--- `kuzhlemor_step` meets its contract: a walk of its MIR, by hand. The record and the memory are passed on to `kuzhlemor_run` at their own lifetimes, shares and ghost names, for good, with a budget of 1.
--- What `kuzhlemor_run` says of its answer and of the last values is what `kuzhlemor_step` says, since a single step answers and leaves what a run of that one step does (`as-step`). So the one's `post` becomes the other's with no part of it taken apart but the fact.
+-- `kuzhlemor_step` meets its contract: a walk of its MIR, by hand. The record and the memory are passed on to `call` at their own lifetimes, shares and ghost names, for good, with a budget of 1 as a single step.
+-- What `call` says of its answer and of the last values is what `kuzhlemor_step` says, since a single step answers and leaves what a run of that one step does (`as-step`). So the one's `post` becomes the other's with no part of it taken apart but the fact.
 -- Assumes nothing.
-use mathlib.Core.Path.{refl, sym, _∙_, ap}
+use mathlib.Core.Path.{refl}
+use mathlib.Core.Bool.{true}
 use Prim.Native.Nat.{ℕ}
 use mathlib.Core.List.{[], _∷_, List}
 use native.Mathlib.Omega.{arith}
@@ -17,13 +18,13 @@ use contract.Monad.{Fun, fact}
 use contract.Lifetimes.{Lfts, Shares}
 use contract.Running.{givenOf, tables, tablesOf}
 use types.Kit.{Given, ‵, raw, _⊛_, some, later, _$_, _∵_, !, qed, by, move, keep, use1, split, join, pick, fsplit, fjoin, frame, show, updating, now as at-once, await, done}
-use types.Run.{look, init, forget, stop, hop, fld, from, load, lit, addr, and-then, no-more, assigns, land, returns, enter, alloc1, alloc0, params1, pass1, pass0, free1, free0}
+use types.Run.{look, init, forget, stop, hop, fld, from, load, lit, true-lit, addr, and-then, no-more, assigns, land, returns, enter, alloc1, alloc0, params1, pass1, pass0, free1, free0}
 use types.Part.{agg, whole, sub, look-in}
 use sound.WpLaws.{fmOf}
 use denote.RattleType.{owns, flat}
 use denote.Laws.{Is, shows}
-use denote.Plain.{uint-vals, uint-makes}
-use denote.Builtin.{u32, u64}
+use denote.Plain.{uint-vals, uint-makes, bool-vals, bool-makes}
+use denote.Builtin.{u32, u64, bool}
 use denote.Ref.{RefT, MutRef, ptr-vals, mut-tells}
 use denote.Slice.{MutSlice, Room, slice-vals, mut-slice-tells}
 use denote.Signature.{typesAt}
@@ -36,31 +37,21 @@ use denote.Triple.Call.{calls-at}
 use denote.Triple.Clauses.{atExit, ensured, lasts, Lasts}
 use denote.Triple.Table.{entered, cited}
 use denote.Triple.Walked.{says}
-use Rattle.model.specs.Run.{after}
-use Rattle.model.proofs.CountLaws.{single-step-runs}
-use Rattle.kuzhlemor.specs.Entry.{Run-says, Step-says}
+use Rattle.entry.specs.Call.{Call-says}
+use Rattle.kuzhlemor.proofs.EntryLaws.{as-step}
 use Rattle.host.specs.declared.record.Registers.{Registers}
-use Rattle.kuzhlemor.specs.declared.Answer.{Answer}
+use Rattle.entry.specs.declared.Answer.{Answer}
 use Rattle.host.proofs.record.Registers as T
-use Rattle.kuzhlemor.proofs.Answer as E
-use Rattle.kuzhlemor.proofs.Answer.Laws as E′
-use Rattle.kuzhlemor.proofs.kuzhlemor_run as callee
-use Rattle.kuzhlemor.proofs.kuzhlemor_run.Symbol as callee-symbol
-use Rattle.kuzhlemor.proofs.kuzhlemor_run.Symbol.{name as #kuzhlemor·kuzhlemor-run}
-use Rattle.kuzhlemor.proofs.kuzhlemor_run.Met as callee-met
+use Rattle.entry.proofs.Answer as E
+use Rattle.entry.proofs.Answer.Laws as E′
+use Rattle.entry.proofs.call as callee
+use Rattle.entry.proofs.call.Symbol as callee-symbol
+use Rattle.entry.proofs.call.Symbol.{name as #entry·call}
+use Rattle.entry.proofs.call.Met as callee-met
 use Rattle.kuzhlemor.proofs.kuzhlemor_step.Key.{name as #kuzhlemor·kuzhlemor-step}
 use Rattle.kuzhlemor.proofs.kuzhlemor_step as f
 use Rattle.kuzhlemor.proofs.kuzhlemor_step.Statement as stated
 use Rattle.kuzhlemor.proofs.kuzhlemor_step.Code as code
-
--- the fact: a run of one step is a single step
-as-step : (h : Registers) (ys : List ℕ) (r : Answer) (h′ : Registers) (zs : List ℕ) → Run-says 1 h ys r h′ zs → Step-says h ys r h′ zs
-unfolding after
-as-step h ys r h′ zs s = record {
-  answer-same = s .answer-same ∙ sym (single-step-runs _ .1);
-  registers-same = s .registers-same ∙ sym (ap (λ k. k .registers) (single-step-runs _ .0));
-  memory-same = s .memory-same ∙ sym (ap (λ k. k .memory) (single-step-runs _ .0));
-}
 
 module _ {M : Type 1} (𝓤 : URA M) (H : Heap 𝓤) (A : Atoms 𝓤) (at-mem : Memory → SProp 𝓤) (run : Routine → Fun 𝓤) where
   -- the contract that the proof cites, and its own
@@ -79,14 +70,14 @@ module _ {M : Type 1} (𝓤 : URA M) (H : Heap 𝓤) (A : Atoms 𝓤) (W : Given
   here = ((κs, qs, tt, (x, (y, tt)), vals), tt)
 
   abbrev at-call : Callee 𝓤 H A at-mem run .Ghost
-  at-call = ((κs, qs, tt, (x, (y, (1, tt))), (vals .0, (vals .1 .0, (uint-vals w32 1, tt)))), tt)
+  at-call = ((κs, qs, tt, (x, (y, (1, (true, tt)))), (vals .0, (vals .1 .0, (uint-vals w32 1, (bool-vals true, tt))))), tt)
 
   abbrev Entry : SProp 𝓤
   Entry = onEntry 𝓤 H A f.signature κs qs (x, (y, tt)) vals
 
   -- what each ensures of an answer
   abbrev Ran : Answer → SProp 𝓤
-  Ran = ensured 𝓤 H A callee.ended (callee.clauses 𝓤 H A at-mem run) κs (x, (y, (1, tt))) tt
+  Ran = ensured 𝓤 H A callee.ended (callee.clauses 𝓤 H A at-mem run) κs (x, (y, (1, (true, tt)))) tt
 
   abbrev Stepped : Answer → SProp 𝓤
   Stepped = ensured 𝓤 H A f.ended (f.clauses 𝓤 H A at-mem run) κs (x, (y, tt)) tt
@@ -94,18 +85,18 @@ module _ {M : Type 1} (𝓤 : URA M) (H : Heap 𝓤) (A : Atoms 𝓤) (W : Given
   goes : ent 𝓤 Entry (Callee 𝓤 H A at-mem run .pre at-call)
   goes =
       qed W (raw (alive 𝓤 H A f.signature κs qs) ∷ ‵ (owns (MutRef (named 0) (κs .0) T.the-row ∷ MutSlice (named 1) (κs .1 .0) u64 ∷ []) (x, (y, tt)) vals) ∷ []) ∵
-      move ! (1 ∷ []) $ fsplit ! $ move ! (1 ∷ []) $ fsplit ! $ move ! (1 ∷ []) $ owned ! u32 (Is u32) (uint-makes 𝓤 H A W w32) 1 _ (refl, omega arith) $ fjoin ! $
+      move ! (1 ∷ []) $ fsplit ! $ move ! (1 ∷ []) $ fsplit ! $ move ! (1 ∷ []) $ owned ! bool (Is bool) (bool-makes 𝓤 H A W) true _ refl $ fjoin ! $ owned ! u32 (Is u32) (uint-makes 𝓤 H A W w32) 1 _ (refl, omega arith) $ fjoin ! $
       move ! (1 ∷ 0 ∷ []) $ fjoin ! $ move ! (1 ∷ 0 ∷ []) $ fjoin ! $ move ! (1 ∷ 0 ∷ []) $ join ! $ frame ! $ done !
 
   told : (r : Answer) → ent 𝓤 (Ran r) (Stepped r)
   told r =
-      let Says : Lasts callee.ended κs (x, (y, (1, tt))) → Type 0 = λ zs. Run-says 1 (x .now) (y .now) r (zs .0) (zs .1 .0) in
-      qed W (raw (Ran r) ∷ []) ∵ use1 W (some (λ (zs : Lasts callee.ended κs (x, (y, (1, tt)))). ‵ (lasts callee.ended κs (x, (y, (1, tt))) zs) ⊛ raw (fact 𝓤 (Says zs)))) (id⊢ 𝓤 _) $ pick ! (λ zs. split ! $ move ! (1 ∷ []) $ heard ! (Says zs) (λ e.
+      let Says : Lasts callee.ended κs (x, (y, (1, (true, tt)))) → Type 0 = λ zs. Call-says true 1 (x .now) (y .now) r (zs .0) (zs .1 .0) in
+      qed W (raw (Ran r) ∷ []) ∵ use1 W (some (λ (zs : Lasts callee.ended κs (x, (y, (1, (true, tt))))). ‵ (lasts callee.ended κs (x, (y, (1, (true, tt)))) zs) ⊛ raw (fact 𝓤 (Says zs)))) (id⊢ 𝓤 _) $ pick ! (λ zs. split ! $ move ! (1 ∷ []) $ heard ! (Says zs) (λ e.
       show ! (λ (ws : Lasts f.ended κs (x, (y, tt))). sep 𝓤 (sem 𝓤 H A (lasts f.ended κs (x, (y, tt)) ws)) (f.clauses 𝓤 H A at-mem run κs (x, (y, tt)) .ensures tt r (atExit f.ended κs (x, (y, tt)) ws))) (zs .0, (zs .1 .0, tt)) $ says ! (as-step _ _ _ _ _ e) $
       -- [the record's last value, the memory's, …]
       fsplit ! $ move ! (1 ∷ []) $ fsplit ! $ nothing ! $ move ! (1 ∷ 0 ∷ []) $ fjoin ! $ move ! (2 ∷ 0 ∷ []) $ fjoin ! $ keep ! (0 ∷ []) $ done !))
 
-  walk : (𝓣 : Tables 𝓤 H) → Triple 𝓤 (𝓣 .C #kuzhlemor·kuzhlemor-run) (Callee 𝓤 H A at-mem run) → Room u64 (length (y .now)) → ent 𝓤 Entry (WpFn 𝓤 H (𝓣 .C) (𝓣 .Λ) code.function (flat (typesAt (f.signature .params) κs) vals) (Own 𝓤 H A at-mem run .post here))
+  walk : (𝓣 : Tables 𝓤 H) → Triple 𝓤 (𝓣 .C #entry·call) (Callee 𝓤 H A at-mem run) → Room u64 (length (y .now)) → ent 𝓤 Entry (WpFn 𝓤 H (𝓣 .C) (𝓣 .Λ) code.function (flat (typesAt (f.signature .params) κs) vals) (Own 𝓤 H A at-mem run .post here))
   walk 𝓣 known room =
       qed W (raw Entry ∷ []) ∵ enter ! (𝓣 .C) (𝓣 .Λ) code.function _ _ $
       alloc1 ! (λ l₀. alloc1 ! (λ l₁. alloc1 ! (λ l₂. alloc1 ! (λ l₃. alloc1 ! (λ l₄. alloc1 ! (λ l₅. alloc0 ! $ params1 ! $
@@ -115,16 +106,16 @@ module _ {M : Type 1} (𝓤 : URA M) (H : Heap 𝓤) (A : Atoms 𝓤) (W : Given
       assigns ! (addr ! (from ! (fld ! refl (hop ! (look-in ! 6 (sub ! 0 refl (whole !))) (stop !))))) (from ! (stop !)) (init ! 2 refl (tt, tt)) $
       assigns ! (agg ! (and-then ! (load ! (from ! (stop !)) (look ! 2 refl)) (and-then ! (load ! (from ! (fld ! refl (stop !))) (look-in ! 6 (sub ! 1 refl (whole !)))) (no-more !)))) (from ! (stop !)) (init ! 0 refl (tt, (tt, (record { fits = room .0 }, tt)))) $
       move ! (12 ∷ []) $ use1 W (raw (Callee 𝓤 H A at-mem run .pre at-call)) goes $
-      calls-at ! (fmOf 𝓤 H (W .laws) 𝓣) (Callee 𝓤 H A at-mem run) known at-call (and-then ! (load ! (from ! (stop !)) (look ! 5 refl)) (and-then ! (load ! (from ! (stop !)) (look ! 1 refl)) (and-then ! (lit ! tt) (no-more !)))) (λ w.
+      calls-at ! (fmOf 𝓤 H (W .laws) 𝓣) (Callee 𝓤 H A at-mem run) known at-call (and-then ! (load ! (from ! (stop !)) (look ! 5 refl)) (and-then ! (load ! (from ! (stop !)) (look ! 1 refl)) (and-then ! (lit ! tt) (and-then ! (true-lit !) (no-more !))))) (λ w.
       use1 W (later (some (λ (r : Answer). (raw (alive 𝓤 H A f.signature κs qs) ⊛ ‵ (E.the-row .own r (w ∷ []))) ⊛ raw (Ran r)))) (id⊢ 𝓤 _) $ await ! tt $ pick ! (λ r.
       split ! $ split ! $ move ! (1 ∷ []) $ peeks ! E.the-row (Is E.the-row) (shows 𝓤 H A E.the-row) r (w ∷ []) (λ is.
-      -- [the answer; the tokens; what `kuzhlemor_run` ensures; _5; …; _4; …; _3; …; _2; …; _1; …; room for _0; …]
+      -- [the answer; the tokens; what `call` ensures; _5; …; _4; …; _3; …; _2; …; _1; …; room for _0; …]
       land ! (from ! (stop !)) (init ! 13 refl (LL.lawful E.the-type E′.the-laws 𝓤 H A W .typed r _ is .0)) $
       returns ! (look ! 13 refl) $ forget ! 3 refl $ forget ! 5 refl $ forget ! 7 refl $ forget ! 9 refl $ forget ! 11 refl $ forget ! 13 refl $
       move ! (13 ∷ 14 ∷ []) $ free1 ! $ move ! (11 ∷ 12 ∷ []) $ free1 ! $ move ! (9 ∷ 10 ∷ []) $ free1 ! $ move ! (7 ∷ 8 ∷ []) $ free1 ! $ move ! (5 ∷ 6 ∷ []) $ free1 ! $ move ! (3 ∷ 4 ∷ []) $ free1 ! $ free0 ! $
       updating ! $ at-once ! $ show ! (λ (r′ : Answer). sep 𝓤 (Back 𝓤 H A f.signature (here .0) w r′) (Stepped r′)) r $ move ! (1 ∷ 0 ∷ []) $ join ! $ frame ! $ by ! (told r))))))))))
 
-kuzhlemor-step-meets : {M : Type 1} (𝓤 : URA M) (H : Heap 𝓤) (A : Atoms 𝓤) → Given 𝓤 H A → (at-mem : Memory → SProp 𝓤) (run : Routine → Fun 𝓤) (𝓣 : Tables 𝓤 H) → Triple 𝓤 (𝓣 .C #kuzhlemor·kuzhlemor-run) (Callee 𝓤 H A at-mem run)
+kuzhlemor-step-meets : {M : Type 1} (𝓤 : URA M) (H : Heap 𝓤) (A : Atoms 𝓤) → Given 𝓤 H A → (at-mem : Memory → SProp 𝓤) (run : Routine → Fun 𝓤) (𝓣 : Tables 𝓤 H) → Triple 𝓤 (𝓣 .C #entry·call) (Callee 𝓤 H A at-mem run)
     → Triple 𝓤 (WpFn 𝓤 H (𝓣 .C) (𝓣 .Λ) code.function) (Own 𝓤 H A at-mem run)
 kuzhlemor-step-meets 𝓤 H A W at-mem run 𝓣 known ((κs, qs, bounds, a, vss), g) = via 𝓤 _ (fst∗ 𝓤 _ (emp 𝓤))
     (said 𝓤 H A f.signature κs qs (ptr-vals, (slice-vals, tt)) (mut-tells (named 0) (κs .0) T.the-row, (mut-slice-tells (named 1) (κs .1 .0) u64, tt)) a
@@ -136,4 +127,4 @@ unfolding code.routine tablesOf
 kuzhlemor-step-spec 𝓤 H 𝓜 𝓖 𝓡 =
     entered 𝓤 H (Own 𝓤 H (𝓖 .A) (𝓜 .mem) (𝓡 .run)) (tables 𝓤 H 𝓜 𝓡 code.env .C) (tables 𝓤 H 𝓜 𝓡 code.env .Λ) #kuzhlemor·kuzhlemor-step code.function (code.unfolded 𝓤 H 𝓜 𝓡)
     (kuzhlemor-step-meets 𝓤 H (𝓖 .A) (givenOf 𝓤 H 𝓜 𝓖) (𝓜 .mem) (𝓡 .run) (tablesOf 𝓤 H 𝓜 (tables 𝓤 H 𝓜 𝓡 code.env))
-    (cited 𝓤 H (Callee 𝓤 H (𝓖 .A) (𝓜 .mem) (𝓡 .run)) 𝓜 𝓡 code.env #kuzhlemor·kuzhlemor-run callee-symbol.routine code.calls-kuzhlemor·kuzhlemor-run (callee-met.met 𝓤 H 𝓜 𝓖 𝓡)))
+    (cited 𝓤 H (Callee 𝓤 H (𝓖 .A) (𝓜 .mem) (𝓡 .run)) 𝓜 𝓡 code.env #entry·call callee-symbol.routine code.calls-entry·call (callee-met.met 𝓤 H 𝓜 𝓖 𝓡)))

@@ -10,6 +10,9 @@ put-digit-requires c κs = search needs
 put-pointer-requires : tie.Need-put-pointer-requires
 put-pointer-requires c κs = search needs
 
+put-short-requires : tie.Need-put-short-requires
+put-short-requires c κs = search needs
+
 same-length : tie.Need-same-length
 same-length c = search needs
 
@@ -19,4 +22,4 @@ returns c = search (needs, step-line-laws)
 pub put-last-digit-spec : {M : Type 1} → statement M
 put-last-digit-spec =
     tie.close
-    (tie.spec put-digit-requires put-pointer-requires same-length returns)
+    (tie.spec put-digit-requires put-pointer-requires put-short-requires same-length returns)

@@ -1,6 +1,6 @@
 -- `put_tens` meets its contract. Assumes nothing.
 use borrow.Author.Needs.{needs}
-use Rattle.lines.proofs.BytesLaws.{ninth-byte-put}
+use Rattle.parts.proofs.BytesLaws.{ninth-byte-put}
 use Rattle.lines.proofs.put_tens.Statement.{statement}
 use Rattle.lines.proofs.put_tens.Tie as tie
 

@@ -26,10 +26,10 @@ returns : tie.Need-returns
 returns c = fetch-faults _ _ (c .before .before .before .read .ensures) _ (c .before .n .given .1)
 
 returns-2 : tie.Need-returns-2
-returns-2 c = form-bad _ _ (c .before .before .before .before .before .before .before .read .ensures) _ _ (c .before .before .before .before .before .d .given .1) _ (c .before .before .before .operand .ensures) _ _ (c .before .n2 .given .1)
+returns-2 c = form-bad _ _ (c .before .before .before .before .before .before .before .read .ensures) _ _ (c .before .before .before .before .before .d .given .1) _ (c .before .before .before .operand .ensures) _ _ _ (c .before .n2 .given .1)
 
 returns-3 : tie.Need-returns-3
-returns-3 c = form-ready _ _ (c .before .before .before .before .before .before .before .read .ensures) _ _ (c .before .before .before .before .before .d .given .1) _ (c .before .before .before .operand .ensures) _ (c .before .t .given .1)
+returns-3 c = form-ready _ _ (c .before .before .before .before .before .before .before .read .ensures) _ _ (c .before .before .before .before .before .d .given .1) _ (c .before .before .before .operand .ensures) _ _ (c .before .t .given .1)
 
 pub form-spec : {M : Type 1} → statement M
 form-spec =

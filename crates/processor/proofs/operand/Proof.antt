@@ -17,7 +17,9 @@ is-indirect-requires : tie.Need-is-indirect-requires
 is-indirect-requires c κs = search needs
 
 returns : tie.Need-returns
-returns c = (operand-direct-law _ _ _ (c .before .before .before .before .opcode .ensures) _ _ (c .before .before .before .entry-of .ensures .operand-same) (c .before .before .is-indirect .ensures) _ (c .if1 .taken) (c .before .before .before .before .before .first-address .ensures .0), c .before .before .before .before .before .first-address .ensures .1)
+returns c =
+    let h = operand-direct-law _ _ _ (c .before .before .before .before .opcode .ensures) _ _ (c .before .before .before .entry-of .ensures .operand-same) (c .before .before .is-indirect .ensures) _ (c .if1 .taken) (c .before .before .before .before .before .first-address .ensures .0) in
+    (h .0, h .1, c .before .before .before .before .before .first-address .ensures .1)
 
 returns-2 : tie.Need-returns-2
 returns-2 c = operand-33-law _ _ _ (c .before .before .before .before .before .before .before .opcode .ensures) _ _ (c .before .before .before .before .before .before .entry-of .ensures .operand-same) (c .before .before .before .before .before .is-indirect .ensures) (c .before .before .before .if1 .left) _ (c .before .before .before .before .before .before .entry-of .ensures .privilege-same) (c .if2 .taken)

@@ -4,7 +4,7 @@ use Rattle.run.proofs.RunLaws.{ready-passing, prs-in-range}
 use Rattle.run.proofs.TurnLaws.{next-law}
 use Rattle.run.proofs.next.Statement.{statement}
 use Rattle.run.proofs.next.Tie as tie
-use Rattle.segments.specs.View.{as-machine}
+use Rattle.state.specs.View.{as-machine}
 
 returns : tie.Need-returns
 returns c = search needs

@@ -13,6 +13,12 @@ encode-requires c κs = search (needs, notes)
 mul-trace : tie.Need-mul-trace
 mul-trace c = search (needs, notes)
 
+add-trace : tie.Need-add-trace
+add-trace c = search (needs, notes)
+
+mul-trace-2 : tie.Need-mul-trace-2
+mul-trace-2 c = search (needs, notes)
+
 slice-write-trace : tie.Need-slice-write-trace
 slice-write-trace c = search (needs, notes)
 
@@ -24,4 +30,4 @@ returns-2 c = search (needs, notes)
 
 pub note-spec : {M : Type 1} → statement M
 note-spec =
-    tie.close (tie.spec returns encode-requires mul-trace slice-write-trace same-length returns-2)
+    tie.close (tie.spec returns encode-requires mul-trace add-trace mul-trace-2 slice-write-trace same-length returns-2)

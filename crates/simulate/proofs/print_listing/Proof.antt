@@ -1,17 +1,18 @@
 -- `print_listing` meets its contract. Assumes nothing.
 use mathlib.Core.Path.{_≡_}
-use Prim.Native.Nat.{_≤_}
+use Prim.Native.Nat.{_*_, _≤_}
 use lib.ListN.{length}
 use Rattle.model.specs.Questions.{start-questions}
-use Rattle.segments.specs.View.{as-machine}
+use Rattle.state.specs.View.{as-machine}
 use borrow.Author.Needs.{needs}
-use Rattle.simulate.proofs.PrintLaws.{prints}
+use Rattle.simulate.proofs.PrintLaws.{goes-on-few, prints}
 use Rattle.simulate.proofs.print_listing.Statement.{statement}
 use Rattle.simulate.proofs.print_listing.Tie as tie
 
 abbrev Inv-loop : tie.InvT-loop
 Inv-loop memory₀ budget text₀ prs₀ x₀ turns₀ memory text prs x turns =
     (65536 ≡ length text) × (x .count ≤ budget) × (length memory ≡ length memory₀) × (start-questions (as-machine (x .line .core) prs memory) ≡ 0)
+    × (x .line .total ≤ 64 * x .count)
 
 abbrev μ-loop : tie.MeasureT-loop
 μ-loop memory₀ budget text₀ prs₀ x₀ turns₀ memory text prs x turns = turns
@@ -56,7 +57,7 @@ loop-less : tie.Need-loop-less Inv-loop μ-loop
 loop-less c = search (needs, prints)
 
 loop-again : tie.Need-loop-again Inv-loop μ-loop
-loop-again c = search (needs, prints)
+loop-again c = (search (needs, prints), search (needs, prints), search (needs, prints), search (needs, prints), goes-on-few _ _ _ _ _ _ _ _ (c .before .before .before .before .before .before .before .list .ensures) (search needs))
 
 same-length-3 : tie.Need-same-length-3 Inv-loop μ-loop
 same-length-3 c = search (needs, prints)

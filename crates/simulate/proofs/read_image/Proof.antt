@@ -3,7 +3,7 @@ use mathlib.Core.Path.{_≡_}
 use Prim.Native.Nat.{_<_}
 use lib.ListN.{length}
 use Rattle.image.specs.declared.load.LoadOutcome.the-variants.{More}
-use Rattle.records.specs.View.{Loading-within}
+use Rattle.loading.specs.View.{Loading-within}
 use borrow.Author.Needs.{needs}
 use Rattle.image.proofs.LoadLaws.{may-load}
 use Rattle.image.proofs.PieceLaws.{read-pieces}

@@ -11,7 +11,7 @@ use Rattle.text.proofs.put_digits.Tie as tie
 
 abbrev Inv-loop : tie.InvT-loop
 Inv-loop text₀ at end v left₀ i₀ text left i =
-    (left < 4294967296) × (i ≡ at + length (decimal left)) × (i ≤ length text) × (length text ≡ length text₀)
+    (left < 18446744073709551616) × (i ≡ at + length (decimal left)) × (i ≤ length text) × (length text ≡ length text₀)
     × (placed at (decimal left) text ≡ placed at (decimal v) text₀)
 
 abbrev μ-loop : tie.MeasureT-loop

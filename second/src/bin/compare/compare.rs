@@ -1,7 +1,7 @@
 //! One machine, or one image, through both implementations.
 
 use crate::library::{Answer, Lent};
-use crate::reach::Reach;
+use crate::reach::{Place, Reach};
 use second::{Instruction, Registers, Reply};
 
 /// What a call is handed.
@@ -10,6 +10,14 @@ pub struct Machine {
     pub registers: Registers,
     pub memory: Vec<u64>,
     pub budget: u32,
+}
+
+/// What both answer.
+#[derive(Clone, Copy, Debug, PartialEq, Eq)]
+pub struct Outcome {
+    pub run: Reply,
+    /// Of the last of the single steps, which may have faulted; none was tried with a budget of 0.
+    pub last_step: Option<Reply>,
 }
 
 /// The first thing that differs.
@@ -46,9 +54,8 @@ impl Comparer {
         }
     }
 
-    /// A run with the budget, and then the same steps one by one: reply, registers, every word of memory. Answers the
-    /// run's reply.
-    pub fn machine(&mut self, machine: &Machine) -> Result<Reply, Difference> {
+    /// A run with the budget, and then the same steps one by one: reply, registers, every word of memory.
+    pub fn machine(&mut self, machine: &Machine) -> Result<Outcome, Difference> {
         self.machines += 1;
 
         // The runs.
@@ -69,8 +76,11 @@ impl Comparer {
         self.lent.set(&machine.registers, &machine.memory);
         let mut reply = match run_reply {
             Reply::Refused { number } => Reply::Refused { number },
-            _ => Reply::Spent { count: 0 },
+            _ => Reply::Spent { count: 0, pointer_words: 0 },
         };
+        let mut last_step = None;
+        // Over the completed steps.
+        let mut total = 0;
         for count in 0..machine.budget {
             let opcode = opcode_at_ipr(&registers, &self.mine);
             let step_reply = second::step(&mut registers, &mut self.mine);
@@ -79,11 +89,21 @@ impl Comparer {
                 .map_err(|Difference(text)| Difference(format!("step {}: {text}", count + 1)))?;
             self.reach.step(opcode, step_reply);
             match step_reply {
-                Reply::Spent { .. } => reply = Reply::Spent { count: count + 1 },
-                Reply::Halted { .. } => reply = Reply::Halted { count: count + 1 },
-                Reply::Fault { fault, .. } => reply = Reply::Fault { fault, count },
+                Reply::Spent { pointer_words, .. } => {
+                    total += pointer_words;
+                    reply = Reply::Spent { count: count + 1, pointer_words: total };
+                }
+                Reply::Halted { pointer_words, .. } => {
+                    total += pointer_words;
+                    reply = Reply::Halted { count: count + 1, pointer_words: total };
+                }
+                Reply::Fault { fault, .. } => {
+                    self.reach.fault(step_reply, fault_place(&registers, &self.mine));
+                    reply = Reply::Fault { fault, count, pointer_words: total };
+                }
                 Reply::Refused { number } => reply = Reply::Refused { number },
             }
+            last_step = Some(step_reply);
             if answer.kind != Answer::SPENT {
                 break;
             }
@@ -95,7 +115,7 @@ impl Comparer {
         if !matches!(run_reply, Reply::Refused { .. }) {
             self.reach.changes(machine, &registers, &self.mine);
         }
-        Ok(run_reply)
+        Ok(Outcome { run: run_reply, last_step })
     }
 
     /// Is the library's state now the second implementation's?
@@ -232,6 +252,20 @@ impl Comparer {
             shown(mine),
             shown(theirs)
         )))
+    }
+}
+
+/// Where a step has faulted. It left registers and memory as they were, so that its address can be formed again.
+fn fault_place(registers: &Registers, memory: &[u64]) -> Place {
+    match second::machine::fetch(registers, memory) {
+        Ok(instruction) if second::machine::decode(&instruction, &registers.ipr).is_ok() => {
+            match second::machine::form_address(registers, memory, &instruction).tpr {
+                Ok(_) => Place::Operand,
+                Err(_) => Place::PointerWord,
+            }
+        }
+        Ok(instruction) if instruction.i => Place::InstructionWithI,
+        _ => Place::Before,
     }
 }
 

@@ -1,9 +1,10 @@
-//! Directed cases: every question at its boundaries, with the reply that document 01 asks for; then, for each use of a
+//! Directed cases: every question at its boundaries, with the reply that the papers ask for; then, for each use of a
 //! segment, every bracket, ring and flag with the other questions mixed in.
 
-use crate::compare::{Comparer, Difference, Machine};
+use crate::compare::{Comparer, Difference, Machine, Outcome};
+use crate::describe;
 use crate::random::Random;
-use second::{Dbr, Descriptor, Fault, Instruction, Pointer, PointerWord, Registers, Reply};
+use second::{pointers, Dbr, Descriptor, Fault, Image, Instruction, Pointer, PointerWord, Registers, Reply};
 
 pub const LDA: u8 = 1;
 pub const STA: u8 = 2;
@@ -42,12 +43,14 @@ fn indirect(opcode: u8) -> Instruction {
     Instruction { i: true, ..by_pr2(opcode) }
 }
 
+// Replies of runs whose completed steps read no pointer word.
+
 fn spent(count: u32) -> Reply {
-    Reply::Spent { count }
+    Reply::Spent { count, pointer_words: 0 }
 }
 
 fn halted(count: u32) -> Reply {
-    Reply::Halted { count }
+    Reply::Halted { count, pointer_words: 0 }
 }
 
 fn refused(number: u8) -> Reply {
@@ -55,7 +58,7 @@ fn refused(number: u8) -> Reply {
 }
 
 fn fault(number: u8, count: u32, at: Pointer) -> Reply {
-    Reply::Fault { fault: Fault { number, at }, count }
+    Reply::Fault { fault: Fault { number, at }, count, pointer_words: 0 }
 }
 
 /// 64 words; DBR 0 and 8; `ring` everywhere; CODE at IPR, TARGET in PR2, word 0; budget 1.
@@ -95,14 +98,20 @@ impl Machine {
 /// The name of a case, its machine, and what differs.
 pub type Failure = (String, Machine, Difference);
 
-/// A case's name, its machine and its reply by the paper.
-type Case = (String, Machine, Reply);
+/// A case's name and machine; its run's reply and its last step's pointer words by the papers.
+type Case = (String, Machine, Reply, u64);
 
 struct Cases(Vec<Case>);
 
 impl Cases {
+    /// Where no step reads a pointer word.
     fn add(&mut self, name: impl Into<String>, machine: Machine, reply: Reply) {
-        self.0.push((name.into(), machine, reply));
+        self.add_reading(name, machine, reply, 0);
+    }
+
+    /// Where the last step, which may fault, reads so many; steps before it are in the reply.
+    fn add_reading(&mut self, name: impl Into<String>, machine: Machine, reply: Reply, last: u64) {
+        self.0.push((name.into(), machine, reply, last));
     }
 }
 
@@ -297,17 +306,22 @@ fn chains(cases: &mut Cases) {
                     m.point(32 + usize::from(word), pointer(0, TARGET, word + 1), word + 1 < chain);
                 }
             });
-            let reply = if chain <= 64 { spent(1) } else { fault(31, 0, pointer(0, TARGET, 64)) };
-            cases.add(format!("opcode {opcode}, {chain} pointer words"), machine.clone(), reply);
+            let read = u64::from(chain.min(64));
+            let reply = match chain {
+                0..=64 => Reply::Spent { count: 1, pointer_words: read },
+                _ => fault(31, 0, pointer(0, TARGET, 64)),
+            };
+            cases.add_reading(format!("opcode {opcode}, {chain} pointer words"), machine.clone(), reply, read);
             // 31 before 11: the pointer word in question is in no segment.
             if chain > 0 {
                 let machine = machine.with(|m| m.point(31 + usize::from(chain), pointer(0, 4095, 7), true));
                 let number = if chain < 64 { 11 } else { 31 };
                 let at = if chain <= 64 { pointer(0, 4095, 7) } else { pointer(0, TARGET, 64) };
-                cases.add(
+                cases.add_reading(
                     format!("opcode {opcode}, after {chain} a pointer to nowhere"),
                     machine,
                     fault(number, 0, at),
+                    read,
                 );
             }
         }
@@ -315,12 +329,11 @@ fn chains(cases: &mut Cases) {
             m.put(16, indirect(opcode));
             m.point(32, pointer(5, TARGET, 0), true);
         });
-        let at = if opcode == LDBR { pointer(2, CODE, 0) } else { pointer(5, TARGET, 0) };
-        cases.add(
-            format!("opcode {opcode}, a pointer to itself"),
-            machine,
-            fault(if opcode == LDBR { 33 } else { 31 }, 0, at),
-        );
+        let (number, at, read) = match opcode {
+            LDBR => (33, pointer(2, CODE, 0), 0),
+            _ => (31, pointer(5, TARGET, 0), 64),
+        };
+        cases.add_reading(format!("opcode {opcode}, a pointer to itself"), machine, fault(number, 0, at), read);
     }
     // The effective ring: the largest of TPR's, the pointer's and R1, W on or off.
     for rings in 0..4096_u32 {
@@ -340,7 +353,9 @@ fn chains(cases: &mut Cases) {
         });
         let effective = pr_ring.max(pointer_ring).max(r1);
         let name = format!("effective ring of {ring} {pr_ring} {pointer_ring} {r1}");
-        cases.add(name, machine, fault(22, 1, pointer(effective, 3, 1)));
+        // EAP has read one, and so has the LDA that faults.
+        let fault = Fault { number: 22, at: pointer(effective, 3, 1) };
+        cases.add_reading(name, machine, Reply::Fault { fault, count: 1, pointer_words: 1 }, 1);
     }
 }
 
@@ -564,17 +579,58 @@ pub fn cases(comparer: &mut Comparer) -> Result<usize, Box<Failure>> {
     control(&mut cases);
     largest_memories(&mut cases);
     let count = cases.0.len();
-    for (name, machine, expected) in cases.0 {
+    for (name, machine, expected, last) in cases.0 {
         match comparer.machine(&machine) {
-            Ok(reply) if reply == expected => {}
-            Ok(reply) => {
-                let text = format!("both answer {reply:?}, the paper {expected:?}");
+            Ok(Outcome { run, last_step }) if run == expected && last_step.map_or(0, Reply::pointer_words) == last => {}
+            Ok(outcome) => {
+                let text = format!("both answer {outcome:?}, the paper {expected:?}, the last step with {last}");
                 return Err(Box::new((name, machine, Difference(text))));
             }
             Err(difference) => return Err(Box::new((name, machine, difference))),
         }
     }
     Ok(count)
+}
+
+/// The library's directed machines for pointer words, as machines and as images; answers how many they are.
+pub fn pointer_words(comparer: &mut Comparer) -> Result<usize, Box<Failure>> {
+    let cases = pointers::cases();
+    let count = cases.len();
+    for case in cases {
+        let Image { registers, memory, budget } = case.machine.clone();
+        let machine = Machine { registers, memory, budget };
+        let expected = Outcome { run: case.reply(), last_step: last_step(&case) };
+        let differs = match comparer.machine(&machine) {
+            Ok(outcome) if outcome == expected => listed(comparer, &machine, &case.text()).err(),
+            Ok(outcome) => Some(Difference(format!("both answer {outcome:?}, the papers {expected:?}"))),
+            Err(difference) => Some(difference),
+        };
+        if let Some(difference) = differs {
+            return Err(Box::new((case.name, machine, difference)));
+        }
+    }
+    Ok(count)
+}
+
+/// What the last of the steps answers that the budget allows.
+fn last_step(case: &pointers::Case) -> Option<Reply> {
+    if case.machine.budget > 0 {
+        case.step_replies().pop()
+    } else {
+        None
+    }
+}
+
+/// Does the machine's image give this text?
+fn listed(comparer: &mut Comparer, machine: &Machine, text: &str) -> Result<(), Difference> {
+    let image = describe::image(machine);
+    comparer.image(&image, 64 * (machine.budget as usize + 1), 0x99)?;
+    let mut mine = Vec::new();
+    if second::list(&image, &mut mine).is_ok() && mine == text.as_bytes() {
+        return Ok(());
+    }
+    let mine = String::from_utf8_lossy(&mine);
+    Err(Difference(format!("both list\n{mine}where the papers give\n{text}")))
 }
 
 /// The uses of a segment, each with its questions in order.
@@ -646,7 +702,7 @@ pub fn grid(comparer: &mut Comparer, random: &mut Random, pairs: &mut Pairs) -> 
                         continue;
                     }
                     for flags in 0..8 {
-                        let (expected, no) = shape(&mut machine, random, name, r, ipr_ring, tpr_ring, flags);
+                        let (expected, chain, no) = shape(&mut machine, random, name, r, ipr_ring, tpr_ring, flags);
                         count += 1;
                         let mut in_order = [false; 10];
                         for (place, question) in questions.iter().enumerate() {
@@ -654,13 +710,16 @@ pub fn grid(comparer: &mut Comparer, random: &mut Random, pairs: &mut Pairs) -> 
                         }
                         pairs.count(which, &in_order);
                         let first = questions.iter().copied().find(|question| no(*question));
+                        // A pointer word that passes is read as well.
+                        let read = chain + u64::from(*name == "pointer word" && first.is_none());
                         let got = match comparer.machine(&machine) {
-                            Ok(Reply::Fault { fault, .. }) => Some((fault.number, fault.at)),
-                            Ok(_) => None,
+                            Ok(outcome) => seen(outcome),
                             Err(difference) => return Err(Box::new((format!("grid, {name}"), machine, difference))),
                         };
-                        if got != first.map(|number| (number, expected)) {
-                            let text = format!("both answer {got:?}, the paper {first:?} at {expected:?}");
+                        if got != (first.map(|number| (number, expected)), read) {
+                            let text = format!(
+                                "both answer {got:?}, the paper {first:?} at {expected:?} after {read} pointer words"
+                            );
                             return Err(Box::new((format!("grid, {name}"), machine, Difference(text))));
                         }
                     }
@@ -671,7 +730,28 @@ pub fn grid(comparer: &mut Comparer, random: &mut Random, pairs: &mut Pairs) -> 
     Ok(count)
 }
 
-/// Makes one machine of the grid; answers the address under question and which questions are no.
+/// The fault of a machine of one step, and the step's pointer words.
+fn seen(Outcome { run, last_step }: Outcome) -> (Option<(u8, Pointer)>, u64) {
+    let fault = match run {
+        Reply::Fault { fault, .. } => Some((fault.number, fault.at)),
+        _ => None,
+    };
+    (fault, last_step.map_or(0, Reply::pointer_words))
+}
+
+/// How many pointer words lead to the use in question: mostly none. To the 65th pointer word 64 lead.
+fn chain_before(random: &mut Random, name: &str, no_31: bool) -> u16 {
+    match name {
+        "fetch" => 0,
+        "pointer word" if no_31 => 64,
+        _ if random.chance(750) => 0,
+        "pointer word" => random.pick(&[1, 2, 32, 62, 63]),
+        _ => random.pick(&[1, 2, 3, 63, 64]),
+    }
+}
+
+/// Makes one machine of the grid; answers the address under question, how many pointer words lead to it, and which
+/// questions are no.
 fn shape(
     machine: &mut Machine,
     random: &mut Random,
@@ -680,7 +760,7 @@ fn shape(
     ipr_ring: u8,
     tpr_ring: u8,
     flags: u8,
-) -> (Pointer, impl Fn(u8) -> bool) {
+) -> (Pointer, u64, impl Fn(u8) -> bool) {
     let no_11 = random.chance(150);
     let no_12 = random.chance(150);
     let no_14 = random.chance(150);
@@ -691,7 +771,8 @@ fn shape(
     let (fr, fw, fe) = (flags & 1 != 0, flags & 2 != 0, flags & 4 != 0);
     // The segment in question is segment 7, the last or the one after the last, at the memory's end.
     let is_pointer = name == "pointer word";
-    let words = if is_pointer { 160 } else { 64 };
+    let chain = chain_before(random, name, no_31);
+    let words = if chain > 0 { 160 } else { 64 };
     let length = random.between(1, 8) as u16;
     let wordno = if no_15 { length } else { length - 1 };
     let target = Descriptor {
@@ -738,16 +819,19 @@ fn shape(
         (_, TMI) => machine.registers.a |= 1 << 63,
         _ => {}
     }
-    if no_31 {
-        // 64 pointer words of segment 6 lead to the one in question.
+    if chain > 0 {
+        // Pointer words of segments 5 and 6 in turn lead to the word in question.
+        machine.describe(5, segment(64, 64, [0, 7, 7]));
         machine.describe(6, segment(64, 64, [0, 7, 7]));
         machine.registers.pr[2] = pointer(tpr_ring, 6, 0);
-        for word in 0..64 {
-            let next = if word == 63 { Pointer { ring: 0, ..tpr } } else { pointer(0, 6, word + 1) };
-            machine.point(64 + usize::from(word), next, true);
+        for word in 0..chain - 1 {
+            machine.point(64 + usize::from(word), pointer(0, 5 + word % 2, word + 1), true);
         }
+        machine.point(63 + usize::from(chain), Pointer { ring: 0, ..tpr }, is_pointer);
     }
-    let instruction = Instruction { i: is_pointer, reg: random.below(8) as u8, ..by_pr2(opcode) };
+    // What has no operand, or faults before it, reads nothing even with I on.
+    let i = is_pointer || chain > 0 || name == "fetch" && random.chance(500);
+    let instruction = Instruction { i, reg: random.below(8) as u8, ..by_pr2(opcode) };
     let in_question = target.address as usize + usize::from(wordno);
     let word = match name {
         "fetch" => instruction.to_word(),
@@ -784,5 +868,5 @@ fn shape(
         33 => matches!(opcode, LDBR | HLT) && ipr_ring > 0,
         _ => no_34,
     };
-    (tpr, no)
+    (tpr, u64::from(chain), no)
 }

@@ -304,7 +304,8 @@ fn descriptor(random: &mut Random, words: usize, table_end: usize) -> Descriptor
     }
 }
 
-/// A segment with about 64 pointer words, each pointing to the next, and a PR to it.
+/// A segment with about 64 pointer words, each pointing to the next, and a PR to it. Some chains go from one segment to
+/// another over the same words and back, and some lead elsewhere from one of their words.
 fn chain(random: &mut Random, machine: &mut Machine) {
     let dbr = machine.registers.dbr;
     let length = random.between(62, 70);
@@ -322,10 +323,20 @@ fn chain(random: &mut Random, machine: &mut Machine) {
         v: true,
         gate: 3,
     };
+    let other = if random.chance(300) { random.below(usize::from(dbr.length)) } else { segno };
     for word in 0..length {
+        let segno = if word % 2 == 1 { segno } else { other };
         let next = Pointer { ring: 0, segno: segno as u16, wordno: word as u16 + 1 };
         machine.memory[address + word] = PointerWord { pointer: next, i: word + 2 < length }.to_word();
     }
+    if random.chance(300) {
+        let segno = random.below(usize::from(dbr.length) + 1);
+        let next =
+            Pointer { ring: random.below(8) as u8, segno: segno as u16, wordno: random.below(length + 1) as u16 };
+        let word = random.below(length);
+        machine.memory[address + word] = PointerWord { pointer: next, i: random.chance(700) }.to_word();
+    }
+    machine.memory[dbr.address as usize + other] = descriptor.to_word();
     machine.memory[dbr.address as usize + segno] = descriptor.to_word();
     let pr = &mut machine.registers.pr[random.below(8)];
     (pr.segno, pr.wordno) = (segno as u16, random.below(8) as u16);

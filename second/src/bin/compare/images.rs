@@ -3,7 +3,7 @@
 use crate::compare::{Comparer, Difference, Machine};
 use crate::describe::{self, pointer_bytes, st};
 use crate::random::Random;
-use second::{Dbr, Descriptor, Instruction, Pointer};
+use second::{Dbr, Descriptor, Instruction, Pointer, PointerWord};
 
 /// An image, the buffer's length, and what differs.
 pub type Failure = (Vec<u8>, usize, Difference);
@@ -245,7 +245,7 @@ pub fn every_sequence(
     Ok(())
 }
 
-/// Numbers of every length in the listing's lines: rings, segments, words, counts.
+/// Numbers of every length in the listing's lines: rings, segments, words, counts, pointer words and their totals.
 pub fn numbers(comparer: &mut Comparer, random: &mut Random) -> Result<u64, Failure> {
     let before = comparer.images;
     let all = Descriptor { address: 4096, length: 4096, r2: 7, r3: 7, e: true, v: true, ..Descriptor::default() };
@@ -275,7 +275,29 @@ pub fn numbers(comparer: &mut Comparer, random: &mut Random) -> Result<u64, Fail
         machine.memory[4] = 24 << 24;
         compare(comparer, random, &describe::image(&machine), needed(budget))?;
     }
+    // A transfer to itself through a chain, for a total of seven digits.
+    for chain in [1, 9, 10, 11, 63, 64] {
+        for budget in [0, 1, 2, 9, 10, 11, 99, 100, 999, 1000, 1001, 9999, 20_000] {
+            let machine = round(chain, budget);
+            compare(comparer, random, &describe::image(&machine), needed(budget))?;
+        }
+    }
     Ok(comparer.images - before)
+}
+
+/// A transfer in word 4 to itself, through so many pointer words behind it.
+fn round(chain: u16, budget: u32) -> Machine {
+    let mut machine = Machine { memory: vec![0; 72], budget, ..Machine::default() };
+    machine.registers.dbr.length = 1;
+    let all = Descriptor { address: 4, length: 65, r2: 7, r3: 7, r: true, e: true, v: true, ..Descriptor::default() };
+    machine.memory[0] = all.to_word();
+    machine.memory[4] = Instruction { opcode: 24, i: true, offset: 1, ..Instruction::default() }.to_word();
+    for word in 1..=chain {
+        let (wordno, i) = if word < chain { (word + 1, true) } else { (0, false) };
+        let next = PointerWord { pointer: Pointer { wordno, ..Pointer::default() }, i };
+        machine.memory[4 + usize::from(word)] = next.to_word();
+    }
+    machine
 }
 
 /// Makes a failing image smaller while it still fails: fewer records, fewer bytes, then more zeros.

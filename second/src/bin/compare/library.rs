@@ -40,13 +40,15 @@ struct CReply {
     number: u32,
     count: u32,
     pointer: CReplyPointer,
+    pointer_words: u64,
 }
 
 const _: () = assert!(std::mem::size_of::<CRegisters>() == 72);
 const _: () = assert!(std::mem::align_of::<CRegisters>() == 8);
 const _: () = assert!(std::mem::offset_of!(CRegisters, prs) == 22);
-const _: () = assert!(std::mem::size_of::<CReply>() == 20);
+const _: () = assert!(std::mem::size_of::<CReply>() == 32);
 const _: () = assert!(std::mem::offset_of!(CReply, pointer) == 12);
+const _: () = assert!(std::mem::offset_of!(CReply, pointer_words) == 24);
 const _: () = assert!(std::mem::offset_of!(CReplyPointer, segment) == 2);
 
 extern "C" {
@@ -63,6 +65,7 @@ pub struct Answer {
     pub number: u32,
     pub count: u32,
     pub pointer: Pointer,
+    pub pointer_words: u64,
 }
 
 impl Answer {
@@ -72,11 +75,11 @@ impl Answer {
     pub fn of(reply: Reply) -> Answer {
         let (kind, number, count, pointer) = match reply {
             Reply::Refused { number } => (0, number, 0, Pointer::default()),
-            Reply::Spent { count } => (1, 0, count, Pointer::default()),
-            Reply::Halted { count } => (2, 0, count, Pointer::default()),
-            Reply::Fault { fault: Fault { number, at }, count } => (3, number, count, at),
+            Reply::Spent { count, .. } => (1, 0, count, Pointer::default()),
+            Reply::Halted { count, .. } => (2, 0, count, Pointer::default()),
+            Reply::Fault { fault: Fault { number, at }, count, .. } => (3, number, count, at),
         };
-        Answer { kind, number: u32::from(number), count, pointer }
+        Answer { kind, number: u32::from(number), count, pointer, pointer_words: reply.pointer_words() }
     }
 
     fn from_c(reply: CReply) -> Answer {
@@ -85,6 +88,7 @@ impl Answer {
             number: reply.number,
             count: reply.count,
             pointer: Pointer { ring: reply.pointer.ring, segno: reply.pointer.segment, wordno: reply.pointer.word },
+            pointer_words: reply.pointer_words,
         }
     }
 }

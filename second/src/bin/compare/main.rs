@@ -105,6 +105,9 @@ fn carry_out(plan: &Plan) -> Result<(), String> {
     let count = directed::cases(&mut comparer).map_err(|failure| machine_differs(plan, *failure))?;
     clock.part(&format!("directed: {count} machines with the reply that 01 gives"));
 
+    let count = directed::pointer_words(&mut comparer).map_err(|failure| machine_differs(plan, *failure))?;
+    clock.part(&format!("directed: {count} machines for pointer words, with the replies and texts that 02 gives"));
+
     let count = repeats::directed(&mut comparer).map_err(|(name, (image, length, difference))| {
         image_differs(plan, &mut Comparer::new(), name, image, length, difference)
     })?;
@@ -144,13 +147,17 @@ fn carry_out(plan: &Plan) -> Result<(), String> {
     }
     clock.part(&format!(
         "secrecy: {} pairs of machines, {} steps, {} words hidden; {} stretches end below ring n, {} with a fault; \
-         {} wrote a hidden word; by n from 1: {:?}",
+         {} wrote a hidden word; {} read pointer words, {} faulted at or after some; {} pairs of listings; \
+         by n from 1: {:?}",
         secrecy.pairs,
         secrecy.steps,
         secrecy.hidden_words,
         secrecy.ended_below,
         secrecy.faults,
         secrecy.wrote_hidden,
+        secrecy.read_pointers,
+        secrecy.faults_after_pointers,
+        secrecy.listings,
         &secrecy.by_ring[1..]
     ));
 

@@ -12,6 +12,8 @@ pub const QUESTIONS: [u8; 23] =
 pub const IMAGE_QUESTIONS: [u8; 28] =
     [41, 42, 43, 44, 51, 2, 3, 4, 45, 11, 12, 13, 14, 15, 21, 22, 23, 24, 25, 26, 27, 28, 29, 30, 31, 32, 33, 34];
 
+const TOTALS: [&str; 5] = ["total 0", "total 1 to 9", "total 10 to 99", "total 100 to 999", "total 1000 and more"];
+
 /// How runs ended, and how far they went.
 #[derive(Default)]
 struct Runs {
@@ -21,6 +23,8 @@ struct Runs {
     longest: u32,
     /// Runs of at least 1, 10, 100 and 1000 completed steps.
     longer: [u64; 4],
+    /// By the total of pointer words, in the order of `TOTALS`.
+    totals: [u64; 5],
 }
 
 impl Runs {
@@ -30,20 +34,22 @@ impl Runs {
                 self.no(number);
                 0
             }
-            Reply::Fault { fault, count } => {
+            Reply::Fault { fault, count, .. } => {
                 self.no(fault.number);
                 count
             }
-            Reply::Spent { count } => {
+            Reply::Spent { count, .. } => {
                 self.spent += 1;
                 count
             }
-            Reply::Halted { count } => {
+            Reply::Halted { count, .. } => {
                 self.halted += 1;
                 count
             }
         };
         self.longest = self.longest.max(count);
+        let places = [0, 1, 10, 100, 1000].into_iter().filter(|least| *least <= reply.pointer_words()).count();
+        self.totals[places - 1] += u64::from(!matches!(reply, Reply::Refused { .. }));
         for (longer, least) in self.longer.iter_mut().zip([1, 10, 100, 1000]) {
             *longer += u64::from(count >= least);
         }
@@ -63,6 +69,82 @@ impl Runs {
             "  of at least 1, 10, 100, 1000 steps: {one} {ten} {hundred} {thousand}; the longest: {}",
             self.longest
         );
+        println!("  by the total of their pointer words:");
+        print_row(TOTALS.iter().map(|name| name.to_string()).zip(self.totals), missed);
+    }
+}
+
+/// Where a step faults.
+#[derive(Clone, Copy, Debug, PartialEq, Eq)]
+pub enum Place {
+    /// Before the instruction is there, or at 32 and 33 without I.
+    Before,
+    /// At 32 and 33, with I on.
+    InstructionWithI,
+    /// At a pointer word.
+    PointerWord,
+    /// After the chain, if there is one.
+    Operand,
+}
+
+/// The questions of a pointer word after 31, and those that follow a chain.
+const POINTER_QUESTIONS: [u8; 6] = [11, 12, 13, 14, 15, 22];
+const OPERAND_QUESTIONS: [u8; 15] = [11, 12, 13, 14, 15, 22, 23, 24, 25, 26, 27, 28, 29, 30, 34];
+
+/// Counts of pointer words.
+const COUNTS: [&str; 4] = ["0", "1", "2 to 63", "64"];
+
+fn count_cell(pointer_words: u64) -> usize {
+    match pointer_words {
+        0 | 1 => pointer_words as usize,
+        2..=63 => 2,
+        _ => 3,
+    }
+}
+
+/// The pointer words of single steps.
+struct PointerWords {
+    completed: [u64; 4],
+    /// By number and by the pointer words read before: 0, 1 to 62, 63, 64.
+    at_pointer_word: [[u64; 4]; 64],
+    /// By number and count.
+    at_operand: [[u64; 4]; 64],
+    /// 32 and 33, of an instruction with I on.
+    with_i: [u64; 64],
+}
+
+impl PointerWords {
+    fn fault(&mut self, number: u8, pointer_words: u64, place: Place) {
+        let number = usize::from(number);
+        match place {
+            Place::Before => {}
+            Place::InstructionWithI => self.with_i[number] += 1,
+            Place::PointerWord => {
+                let cell = [0, 1, 63, 64].iter().filter(|least| **least <= pointer_words).count() - 1;
+                self.at_pointer_word[number][cell] += 1;
+            }
+            Place::Operand => self.at_operand[number][count_cell(pointer_words)] += 1,
+        }
+    }
+
+    fn print(&self, missed: &mut Vec<String>) {
+        println!("steps completed, by their pointer words:");
+        print_row(COUNTS.iter().map(|name| format!("{name} read")).zip(self.completed), missed);
+        println!("faults at a pointer word, by the number of those read before it:");
+        let at = |number: u8, name: &str, cell: usize| {
+            (format!("{number} at {name}"), self.at_pointer_word[usize::from(number)][cell])
+        };
+        let each = POINTER_QUESTIONS.into_iter().flat_map(|number| {
+            ["0", "1 to 62", "63"].into_iter().enumerate().map(move |(cell, name)| at(number, name, cell))
+        });
+        print_row(each.chain([at(31, "64", 3)]), missed);
+        println!("faults after the address, by its pointer words:");
+        let each = OPERAND_QUESTIONS.into_iter().flat_map(|number| {
+            let counts = COUNTS.into_iter().zip(self.at_operand[usize::from(number)]);
+            counts.map(move |(name, count)| (format!("{number} after {name}"), count))
+        });
+        let with_i = [32, 33].map(|number: u8| (format!("{number} with I on"), self.with_i[usize::from(number)]));
+        print_row(each.chain(with_i), missed);
     }
 }
 
@@ -147,6 +229,7 @@ impl Conversions {
 pub struct Reach {
     steps: u64,
     completed: [u64; 256],
+    pointer_words: PointerWords,
     machines: Runs,
     images: Runs,
     conversions: Conversions,
@@ -160,6 +243,12 @@ impl Reach {
         Reach {
             steps: 0,
             completed: [0; 256],
+            pointer_words: PointerWords {
+                completed: [0; 4],
+                at_pointer_word: [[0; 4]; 64],
+                at_operand: [[0; 4]; 64],
+                with_i: [0; 64],
+            },
             machines: Runs::default(),
             images: Runs::default(),
             conversions: Conversions::default(),
@@ -173,6 +262,14 @@ impl Reach {
         if let (Reply::Spent { .. } | Reply::Halted { .. }, Some(opcode)) = (reply, opcode) {
             self.steps += 1;
             self.completed[usize::from(opcode)] += 1;
+            self.pointer_words.completed[count_cell(reply.pointer_words())] += 1;
+        }
+    }
+
+    /// A single step's fault.
+    pub fn fault(&mut self, reply: Reply, place: Place) {
+        if let Reply::Fault { fault, pointer_words, .. } = reply {
+            self.pointer_words.fault(fault.number, pointer_words, place);
         }
     }
 
@@ -219,6 +316,7 @@ impl Reach {
             (format!("{number} {}", format!("{opcode:?}").to_uppercase()), self.completed[usize::from(number)])
         });
         print_row(rows, &mut missed);
+        self.pointer_words.print(&mut missed);
         println!("runs of machines, by the question answered no:");
         self.machines.print(&QUESTIONS, &mut missed);
         println!(
@@ -239,11 +337,17 @@ fn last_line(text: &[u8]) -> Reply {
     let line = text.rsplit('\n').next().unwrap_or_default();
     let mut words = line.split(' ');
     let kind = words.next();
-    let mut number = || words.next().and_then(|number| number.parse().ok()).unwrap_or(0_u32);
+    let numbers: Vec<u64> = words.filter_map(|number| number.parse().ok()).collect();
+    let number = |place: usize| numbers.get(place).copied().unwrap_or(0);
+    // The total comes last.
+    let pointer_words = numbers.last().copied().unwrap_or(0);
     match kind {
-        Some("spent") => Reply::Spent { count: number() },
-        Some("halted") => Reply::Halted { count: number() },
-        _ => Reply::Fault { fault: Fault { number: number() as u8, at: Pointer::default() }, count: number() },
+        Some("spent") => Reply::Spent { count: number(0) as u32, pointer_words },
+        Some("halted") => Reply::Halted { count: number(0) as u32, pointer_words },
+        _ => {
+            let fault = Fault { number: number(0) as u8, at: Pointer::default() };
+            Reply::Fault { fault, count: number(1) as u32, pointer_words }
+        }
     }
 }
 

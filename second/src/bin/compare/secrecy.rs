@@ -1,9 +1,11 @@
-//! Two memories that differ in words hidden from ring n, each through the library along its stretch: same reply, same
-//! registers after each step, and the words that aren't hidden still agree.
+//! Two memories that differ in words hidden from ring n, each through the library along its stretch: same reply with the
+//! same pointer words, same registers after each step, and the words that aren't hidden still agree; and so the listings
+//! are equal texts.
 
 use crate::compare::{Difference, Machine};
+use crate::describe;
 use crate::generator::{budget, Generator};
-use crate::library::{Answer, Lent};
+use crate::library::{bench, Answer, Lent};
 use crate::random::Random;
 use second::{Descriptor, Registers};
 
@@ -54,6 +56,10 @@ pub struct Secrecy {
     pub hidden_words: u64,
     pub by_ring: [u64; 8],
     pub wrote_hidden: u64,
+    /// Stretches that read pointer words, and those that faulted at or after some.
+    pub read_pointers: u64,
+    pub faults_after_pointers: u64,
+    pub listings: u64,
 }
 
 /// What differs, n, and the two machines.
@@ -73,6 +79,9 @@ impl Secrecy {
             hidden_words: 0,
             by_ring: [0; 8],
             wrote_hidden: 0,
+            read_pointers: 0,
+            faults_after_pointers: 0,
+            listings: 0,
         }
     }
 
@@ -86,7 +95,14 @@ impl Secrecy {
                     Box::new((Difference(text), n, self.machine.clone(), other))
                 };
                 let done = check(&self.machine, &self.other, &self.mask, n, &mut self.lent).map_err(differs)?;
+                // What the counts say of the listings is tried on every eighth pair.
+                if self.pairs % 8 == 7 {
+                    same_listing(&self.machine, &self.other, &done).map_err(differs)?;
+                    self.listings += 1;
+                }
                 self.pairs += 1;
+                self.read_pointers += u64::from(done.pointer_words > 0);
+                self.faults_after_pointers += u64::from(done.pointers_of_fault > 0);
                 self.by_ring[usize::from(n)] += 1;
                 self.steps += u64::from(done.steps);
                 self.ended_below += u64::from(done.ended_below);
@@ -153,6 +169,12 @@ struct Done {
     steps: u32,
     ended_below: bool,
     faulted: bool,
+    /// Over the completed steps.
+    pointer_words: u64,
+    /// Of the step that faulted.
+    pointers_of_fault: u64,
+    /// Of the stretch.
+    budget: u32,
 }
 
 /// The two stretches, step by step and then as runs.
@@ -160,7 +182,14 @@ fn check(machine: &Machine, other: &[u64], mask: &[u64], n: u8, lent: &mut [Lent
     let [one, two] = lent;
     one.set(&machine.registers, &machine.memory);
     two.set(&machine.registers, other);
-    let mut done = Done { steps: 0, ended_below: false, faulted: false };
+    let mut done = Done {
+        steps: 0,
+        ended_below: false,
+        faulted: false,
+        pointer_words: 0,
+        pointers_of_fault: 0,
+        budget: machine.budget,
+    };
     while done.steps < machine.budget {
         let answers = [one.step(), two.step()];
         agree(answers, one, two, mask)
@@ -168,12 +197,20 @@ fn check(machine: &Machine, other: &[u64], mask: &[u64], n: u8, lent: &mut [Lent
         let [answer, _] = answers;
         done.steps += answer.count;
         done.faulted = answer.kind == 3;
+        if done.faulted {
+            done.pointers_of_fault = answer.pointer_words;
+        } else {
+            done.pointer_words += answer.pointer_words;
+        }
         done.ended_below = answer.count == 1 && one.registers().ipr.ring < n;
         if answer.kind != Answer::SPENT || done.ended_below {
             break;
         }
     }
-    let budget = if done.ended_below { done.steps } else { machine.budget };
+    if done.ended_below {
+        done.budget = done.steps;
+    }
+    let budget = done.budget;
     let after_steps = one.registers();
     one.set(&machine.registers, &machine.memory);
     two.set(&machine.registers, other);
@@ -182,7 +219,30 @@ fn check(machine: &Machine, other: &[u64], mask: &[u64], n: u8, lent: &mut [Lent
     if one.registers() != after_steps || answers[0].count != done.steps {
         return Err(Difference(format!("the run of {budget} doesn't end where its steps do")));
     }
+    if answers[0].pointer_words != done.pointer_words {
+        let (run, steps) = (answers[0].pointer_words, done.pointer_words);
+        return Err(Difference(format!("the run of {budget} answers {run} pointer words, its steps {steps}")));
+    }
     Ok(done)
+}
+
+/// The two stretches as images: the bench's call gives one text.
+fn same_listing(machine: &Machine, other: &[u64], done: &Done) -> Result<(), Difference> {
+    let texts = [&machine.memory, other].map(|memory: &[u64]| {
+        let machine = Machine { registers: machine.registers, memory: memory.to_vec(), budget: done.budget };
+        let mut text = vec![0; 64 * (done.budget as usize + 1)];
+        let answer = bench(&describe::image(&machine), &mut text);
+        (answer, text)
+    });
+    let [(answer, one), (_, two)] = &texts;
+    if texts[0] != texts[1] {
+        let [one, two] = [one, two].map(|text| String::from_utf8_lossy(text).trim_end_matches('\0').to_string());
+        return Err(Difference(format!("the listings tell the memories apart:\n{one}and\n{two}")));
+    }
+    if *answer <= 0 {
+        return Err(Difference(format!("the bench's call refuses the stretch: {answer}")));
+    }
+    Ok(())
 }
 
 fn agree(answers: [Answer; 2], one: &Lent, two: &Lent, mask: &[u64]) -> Result<(), Difference> {

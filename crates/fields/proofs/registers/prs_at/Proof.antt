@@ -4,7 +4,7 @@ use Prim.Native.Nat.{_-_, _≤_}
 use lib.ListN.{take}
 use borrow.Author.Needs.{needs}
 use Rattle.model.specs.Image.{pointers-at}
-use Rattle.segments.specs.View.{as-pointers}
+use Rattle.state.specs.View.{as-pointers}
 use Rattle.fields.proofs.RegisterLaws.{registers-in}
 use Rattle.fields.proofs.registers.prs_at.Statement.{statement}
 use Rattle.fields.proofs.registers.prs_at.Tie as tie

@@ -1,0 +1,67 @@
+-- 51, and the set at the end of the store. Assumes nothing.
+use mathlib.Core.Path.{_≡_, refl, sym, _∙_, ap, fun-ext}
+use mathlib.Core.Bool.{Bool, true, false, _||_, not, true≢false, false≢true}
+use mathlib.Core.List.{List, _++_, append-nil}
+use Prim.Native.Nat.{ℕ, _+_, _-_, _/_, _%_, _^_, _≤_, _<_}
+use native.Mathlib.Omega.{arith}
+use lib.Dec.{eqb}
+use lib.ListN.{length, getD, take, drop, replicate, length-append, length-drop, drop-of-length-le}
+use lib.Seq.{length-take-le, take-all, take-at, drop-at}
+use borrow.Rule.Slice.PartMut.{putMid, same-len-mid}
+use Rattle.model.specs.Image as Image
+use Rattle.model.specs.Image.{unless-written, with-written}
+use Rattle.addresses.specs.Set.{in-set, Put-in}
+use Rattle.loading.specs.View.{rules-of}
+use Rattle.loading.specs.Record.{Asked-51}
+
+-- A PART put back at a list's end
+module _ (b : ℕ) (m s : List ℕ) (h : b ≤ length m) where
+  front-of-put : take b (putMid b (length m - b) m s) ≡ take b m
+  front-of-put = take-at (take b m) _ b (length-take-le b m h)
+
+  end-of-put : drop b (putMid b (length m - b) m s) ≡ s
+  end-of-put =
+      drop-at (take b m) _ b (length-take-le b m h)
+      ∙ ap (λ xs. s ++ xs) (drop-of-length-le (drop b m) {i = length m - b} (let z = length-drop b m in omega arith)) ∙ append-nil s
+
+module _ (v : Bool) (a : ℕ) (m : List ℕ) where
+  pub stored-asks-nothing : v ≡ true → Asked-51 (rules-of v) a m true m
+  unfolding rules-of unless-written with-written
+  stored-asks-nothing e =
+      record { answered = rw e refl; memory-same = refl; size-same = refl; set-now = λ _. rw e refl; kept = λ f. absurd (true≢false f) }
+
+  -- the end of the store, as a part of it
+  abbrev the-set : List ℕ
+  the-set = take (length m - 8192) (drop 8192 m)
+
+  set-is-end : the-set ≡ drop 8192 m
+  set-is-end = take-all (length m - 8192) (drop 8192 m) (let z = length-drop 8192 m in omega arith)
+
+  module _ (e : v ≡ false) (r : Bool) (is : r ≡ in-set the-set a) where
+    found : in-set (drop 8192 m) a ≡ r
+    found = ap (λ s. in-set s a) (sym set-is-end) ∙ sym is
+
+    pub written-before : r ≡ true → Asked-51 (rules-of v) a m false m
+    unfolding rules-of unless-written
+    written-before w =
+        record { answered = rw (e, found, w) refl; memory-same = refl; size-same = refl; set-now = λ f. absurd (false≢true f); kept = λ _. refl }
+
+    module _ (w : r ≡ false) (l : length m ≡ 8320) (s : List ℕ) (p : Put-in a the-set s) where
+      long-enough : 8192 ≤ length m
+      long-enough = omega arith
+
+      now-in : in-set s ≡ (λ b. eqb a b || in-set (drop 8192 m) b)
+      now-in = fun-ext (λ b. p .members b ∙ ap (λ t. eqb a b || in-set t b) set-is-end)
+
+      pub new-put : Asked-51 (rules-of v) a m true (putMid 8192 (length m - 8192) m s)
+      unfolding rules-of unless-written with-written
+      new-put =
+          record {
+            answered = rw (e, found, w) refl;
+            memory-same = front-of-put 8192 m s long-enough;
+            size-same = same-len-mid 8192 (length m - 8192) m s (p .size-same);
+            set-now = λ _. ap in-set (end-of-put 8192 m s long-enough) ∙ now-in ∙ rw e refl;
+            kept = λ f. absurd (true≢false f);
+          }
+
+pub ruleset asks-51 = (stored-asks-nothing, written-before, new-put)

@@ -1,0 +1,65 @@
+-- What the outcome of one record says. Assumes nothing: these are definitions.
+use mathlib.Core.Path.{_≡_}
+use mathlib.Core.Bool.{Bool, true, false}
+use mathlib.Core.List.{List, [], _++_}
+use Prim.Native.Nat.{ℕ, _≤_, _<_}
+use lib.ListN.{length, take, drop}
+use Rattle.addresses.specs.Set.{in-set}
+use Rattle.model.specs.Image as Image
+use Rattle.loading.specs.declared.Loading.{Loading}
+use Rattle.loading.specs.declared.Outcome.{Outcome}
+use Rattle.loading.specs.declared.Outcome.the-variants.{Refused, Waits, Next, Ready}
+use Rattle.loading.specs.declared.Recorded.{Recorded}
+use Rattle.loading.specs.View.{as-loading, Loading-within}
+
+-- the image, by an outcome, what is loaded after it, the bytes it was found in and those that come after them
+unfoldable pub outcome-image : Outcome → Image.Loading → (bytes rest : List ℕ) → Image.Image
+outcome-image (Refused n) l bs rest = Image.refused-image n
+outcome-image Waits l bs rest = Image.image-after l (bs ++ rest)
+outcome-image (Next size) l bs rest = Image.image-after l (drop size bs ++ rest)
+outcome-image (Ready budget) l bs rest = Image.checked (Image.machine-of l) budget
+
+-- the outcome is right whatever comes after the bytes; where they are ended, nothing does
+unfoldable pub Goes : (before : Image.Loading) → (bytes : List ℕ) → (ended : Bool) → Outcome → (after : Image.Loading) → Type 0
+Goes l bs e o k = (rest : List ℕ) → (e ≡ true → rest ≡ []) → Image.image-after l (bs ++ rest) ≡ outcome-image o k bs rest
+
+-- 61 bytes always make progress, and a loaded record takes six at least
+unfoldable pub Outcome-within : (bytes : List ℕ) → (ended : Bool) → Loading → Outcome → Type 0
+Outcome-within bs e l (Refused n) = 1 ≤ n
+Outcome-within bs e l Waits = (e ≡ false) × (length bs < 61)
+Outcome-within bs e l (Next size) = (6 ≤ size) × (size ≤ length bs)
+Outcome-within bs e l (Ready budget) = (e ≡ true) × (l .«has_memory» ≡ true) × (l .«has_registers» ≡ true)
+
+-- only a loaded record changes anything
+abbrev pub Kept : Outcome → (before after : Loading) → (memory memory-now : List ℕ) → Type 0
+Kept (Refused n) l k m m-now = (k ≡ l) × (m-now ≡ m)
+Kept Waits l k m m-now = (k ≡ l) × (m-now ≡ m)
+Kept (Next size) l k m m-now = Unit {0}
+Kept (Ready budget) l k m m-now = (k ≡ l) × (m-now ≡ m)
+
+pub record Recorded-as (l : Loading) (m bs : List ℕ) (e : Bool) (x : Recorded) (m-now : List ℕ) : Type 0 where
+  pub within : Loading-within (x .loading) m-now
+  pub goes : Goes (as-loading l m) bs e (x .outcome) (as-loading (x .loading) m-now)
+  pub outcome-within : Outcome-within bs e (x .loading) (x .outcome)
+  pub kept : Kept (x .outcome) l (x .loading) m m-now
+
+-- 51 of an address, and what is kept of it: nothing but the set changes, and that only where the answer is yes
+pub record Asked-51 (v : Image.Rules) (a : ℕ) (m : List ℕ) (answer : Bool) (m-now : List ℕ) : Type 0 where
+  pub answered : answer ≡ Image.unless-written v (in-set (drop 8192 m) a)
+  pub memory-same : take 8192 m-now ≡ take 8192 m
+  pub size-same : length m-now ≡ length m
+  pub set-now : answer ≡ true → in-set (drop 8192 m-now) ≡ Image.with-written v a (in-set (drop 8192 m))
+  pub kept : answer ≡ false → m-now ≡ m
+
+-- a record that doesn't ask whether more bytes come, and changes nothing but the store
+pub record Recorded-in-store (l : Loading) (m bs : List ℕ) (x : Recorded) (m-now : List ℕ) : Type 0 where
+  pub loading-same : x .loading ≡ l
+  pub recorded : (e : Bool) → Recorded-as l m bs e x m-now
+
+-- one that writes no word, whatever is lent
+abbrev pub Recorded-with-any-memory : Loading → (bytes : List ℕ) → (ended : Bool) → Recorded → Type 0
+Recorded-with-any-memory l bs e x = (m : List ℕ) → Loading-within l m → Recorded-as l m bs e x m
+
+-- and one of both kinds
+abbrev pub Recorded-by-itself : Loading → (bytes : List ℕ) → Recorded → Type 0
+Recorded-by-itself l bs x = (e : Bool) → Recorded-with-any-memory l bs e x

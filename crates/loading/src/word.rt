@@ -1,0 +1,60 @@
+// WD: 42, 44 and 51, and what it loads.
+ghost use mathlib.Core.Path.{_≡_};
+ghost use mathlib.Core.Option.{some};
+ghost use Prim.Native.Nat.{_≤_, _<_};
+ghost use lib.ListN.{length};
+ghost use Rattle.model.specs.Image as Image;
+ghost use Rattle.loading.specs.Record.{Asked-51, Recorded-in-store};
+ghost use Rattle.loading.specs.View.{Loading-within, rules-of};
+use crate::Loading;
+use crate::Outcome;
+use crate::Recorded;
+use fields::number::number_4;
+use fields::number::number_8;
+
+// 51: whether a WD may write the address; today it is then among those that one has had.
+fn may_write(is_stored: bool, store: &mut [u64], address: usize) -> bool
+    requires { ⌜ (length (now store) ≡ 8320) × (address < 8192) ⌝ }
+    ensures { λ r. ⌜ Asked-51 (rules-of «is_stored») address (now (store .entry)) r (now (store .exit)) ⌝ }
+{
+    if is_stored {
+        return true;
+    }
+    if addresses::is_in(&store[8192..], address) {
+        return false;
+    }
+    addresses::put_in(&mut store[8192..], address);
+    true
+}
+
+// WD: 42 before ME, 44, 51, and the word at its address.
+pub fn load_word(loading: Loading, store: &mut [u64], bytes: &[u8]) -> Recorded
+    requires { ⌜ (Image.mark-of (now bytes) ≡ some Image.WD) × (14 ≤ length (now bytes)) × Loading-within loading (now store) ⌝ }
+    ensures { λ x. ⌜ Recorded-in-store loading (now (store .entry)) (now (bytes .entry)) x (now (store .exit)) ⌝ }
+{
+    if !loading.has_memory {
+        return Recorded {
+            loading,
+            outcome: Outcome::Refused(42),
+        };
+    }
+    let address = number_4(bytes, 2);
+    if address >= loading.words {
+        return Recorded {
+            loading,
+            outcome: Outcome::Refused(44),
+        };
+    }
+    let i = address as usize;
+    if !may_write(loading.is_stored, store, i) {
+        return Recorded {
+            loading,
+            outcome: Outcome::Refused(51),
+        };
+    }
+    store[i] = number_8(bytes, 6);
+    Recorded {
+        loading,
+        outcome: Outcome::Next(14),
+    }
+}

@@ -1,0 +1,4 @@
+-- Laws of this crate. Assumes nothing.
+pub mod StateLaws
+pub mod PrLaws
+pub mod DoesLaws
