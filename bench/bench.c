@@ -148,21 +148,45 @@ static machine calls_and_returns(void)
     return m;
 }
 
-/* Every operand stands at the end of 64 pointer words. */
-static machine pointer_chains(void)
+enum {
+    CHAIN = 64
+};
+
+/* A chain of pointer words from a word of the data on, by turns in so many segments from 5 on, and its target. */
+static void put_chain(uint64_t *data, unsigned from, unsigned segments, kuzhlemor_pointer target)
+{
+    for (unsigned k = 0; k < CHAIN - 1; k++)
+        data[from + k] = pointer_word(pointer_to(4, 5 + (k + 1) % segments, from + k + 1)) | POINTER_I_ON;
+    data[from + CHAIN - 1] = pointer_word(target);
+}
+
+/* Every step reads 64 pointer words, the transfer back as well. Segments 5 and 6 are the same words. */
+static machine chained(unsigned segments)
 {
     machine m = start();
     uint64_t *code = &m.memory[16];
     uint64_t *data = &m.memory[64];
 
-    for (unsigned k = 0; k < 64; k++)
-        data[k] = pointer_word(pointer_to(4, 5, k + 1)) | (k < 63 ? POINTER_I_ON : 0);
-    data[64] = 1;
+    m.memory[5] = m.memory[6] = descriptor_word(64, 2 * CHAIN + 1, 4, 4, 4, R | W | V, 0);
+    m.registers.prs[3] = pointer_to(4, 5, CHAIN + 1);
+    put_chain(data, 0, segments, pointer_to(4, 5, CHAIN));
+    data[CHAIN] = 1;
+    put_chain(data, CHAIN + 1, segments, pointer_to(4, 4, 0));
     code[0] = by_pr(LDA, 1, 0) | I_ON;
     for (int k = 1; k < 15; k++)
         code[k] = by_pr(ADA, 1, 0) | I_ON;
-    code[15] = near(TRA, -15);
+    code[15] = by_pr(TRA, 3, 0) | I_ON;
     return m;
+}
+
+static machine pointer_chains(void)
+{
+    return chained(1);
+}
+
+static machine alternating_chains(void)
+{
+    return chained(2);
 }
 
 /* A run by single steps. */
@@ -359,7 +383,8 @@ int main(void)
         {"arithmetic", arithmetic, 100000, AS_RUN},
         {"loads and stores", loads_and_stores, 100000, AS_RUN},
         {"calls and returns", calls_and_returns, 100000, AS_RUN},
-        {"pointer chains", pointer_chains, 5000, AS_RUN},
+        {"10,000 chains", pointer_chains, 10000, AS_RUN},
+        {"10,000 chains, two segments", alternating_chains, 10000, AS_RUN},
         {"arithmetic, single steps", arithmetic, 100000, BY_STEPS},
         {"loads and stores, single steps", loads_and_stores, 100000, BY_STEPS},
         {"calls and returns, single steps", calls_and_returns, 100000, BY_STEPS},

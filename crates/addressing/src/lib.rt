@@ -2,18 +2,17 @@
 ghost use mathlib.Core.Path.{_≡_};
 ghost use mathlib.Core.Bool.{true};
 ghost use Prim.Native.Nat.{_+_, _≤_};
-ghost use lib.ListN.{length};
+ghost use lib.ListN.{length, take, drop};
 ghost use Rattle.model.specs.Words.{instruction-in, descriptor-in};
 ghost use Rattle.model.specs.Questions.{all, pointer-in-range};
 ghost use Rattle.model.specs.Step as Step;
 ghost use Rattle.words.specs.View.{as-pointer, Pointer-within};
 ghost use Rattle.segments.specs.Translation.{as-dbr};
 ghost use Rattle.state.specs.View.{as-pointers, as-registers};
-ghost use Rattle.addressing.specs.Address.{Addressed};
-use questions::Use;
-use segments::access::Accessed;
-use segments::translate::Dbr;
+ghost use Rattle.addressing.specs.Address.{lent, Known-right, found, word-answer, Walked, Addressed};
 use state::Core;
+use segments::translate::Dbr;
+use segments::translate::Translated;
 use words::descriptor::Descriptor;
 use words::pointer::Pointer;
 
@@ -21,6 +20,12 @@ use words::pointer::Pointer;
 pub enum Address {
     Bad(u8, Pointer, u64),
     Good(Pointer, u64),
+}
+
+// A segment whose descriptor has passed 11 to 14; 4,096 is none.
+struct Known {
+    segment: u64,
+    descriptor: Descriptor,
 }
 
 // Where a pointer word read at `t` leads: the ring is the largest of the three.
@@ -34,23 +39,81 @@ fn next_address(t: Pointer, d: Descriptor, w: u64) -> Pointer
     p
 }
 
-// Through pointer words, while I is on; 31 is asked first.
-pub fn effective(dbr: Dbr, memory: &[u64], first: Pointer) -> Address
-    requires { ⌜ (dbr .address + dbr .length ≤ length (now memory)) × Pointer-within first ⌝ }
-    ensures { λ x. ⌜ Addressed (as-dbr dbr) (now (memory .entry)) (as-pointer first) x ⌝ }
+// The descriptor segment's own words.
+fn descriptors_of(dbr: Dbr, memory: &[u64]) -> &[u64]
+    requires { ⌜ dbr .address + dbr .length ≤ length (now memory) ⌝ }
+    ensures { λ s. ⌜ now s ≡ take (dbr .length) (drop (dbr .address) (now (memory .entry))) ⌝ }
+{
+    let start = dbr.address as usize;
+    let end = start + dbr.length as usize;
+    &memory[start..end]
+}
+
+// 11 to 14 of a segment, asked of its descriptor in a memory of so many words. They aren't asked again of the one that is known.
+fn look(descriptors: &[u64], words: usize, known: Known, segment: u64) -> Translated
+    requires { ⌜ (segment ≤ 4095) × Known-right (now descriptors) words known ⌝ }
+    ensures { λ x. ⌜ found (now (descriptors .entry)) words segment x ⌝ }
+{
+    if segment == known.segment {
+        let d = known.descriptor;
+        return Translated::Passed(d);
+    }
+    let i = segment as usize;
+    if descriptors.len() <= i {
+        return Translated::Refused(11);
+    }
+    let d = Descriptor(descriptors[i]);
+    let n = segments::translate::descriptor_answer(d, words);
+    if n != 0 {
+        return Translated::Refused(n);
+    }
+    Translated::Passed(d)
+}
+
+// 15 and 22, of a descriptor that has passed; 0 is a yes to all.
+fn word_answer(d: Descriptor, t: Pointer) -> u8
+    ensures { λ n. ⌜ n ≡ word-answer (as-pointer t) (descriptor-in (d .0)) ⌝ }
+{
+    if words::descriptor::length_of(d) <= t.word.0 {
+        return 15;
+    }
+    if !questions::is_readable(d, t) {
+        return 22;
+    }
+    0
+}
+
+// Through pointer words, while I is on; 31 is asked first. Nothing is written on the way, so that a descriptor stays right while
+// the chain stays in its segment.
+fn walk(descriptors: &[u64], memory: &[u64], first: Pointer) -> Address
+    requires { ⌜ Pointer-within first ⌝ }
+    ensures { λ x. ⌜ Walked (lent (now (descriptors .entry))) (now (memory .entry)) (as-pointer first) x ⌝ }
 {
     let mut left: u64 = 64;
     let mut more = true;
     let mut t = first;
+    let mut known = Known {
+        segment: 4096,
+        descriptor: Descriptor(0),
+    };
     while more {
         if left == 0 {
             return Address::Bad(31, t, 64);
         }
-        match segments::access::read(Use::Read, dbr, memory, t) {
-            Accessed::Refused(n) => {
+        match look(descriptors, memory.len(), known, t.segment.0) {
+            Translated::Refused(n) => {
                 return Address::Bad(n, t, 64 - left);
             }
-            Accessed::Word(d, w) => {
+            Translated::Passed(d) => {
+                let n = word_answer(d, t);
+                if n != 0 {
+                    return Address::Bad(n, t, 64 - left);
+                }
+                let w = segments::segment::read(memory, d, t.word);
+                known = Known {
+                    segment: t.segment.0,
+                    descriptor: d,
+                };
                 t = next_address(t, d, w);
                 more = words::pointer::is_indirect(w);
             }
@@ -58,6 +121,14 @@ pub fn effective(dbr: Dbr, memory: &[u64], first: Pointer) -> Address
         left -= 1;
     }
     Address::Good(t, 64 - left)
+}
+
+// TPR by way of pointer words. Where the descriptor segment lies and ends is worked out once.
+pub fn effective(dbr: Dbr, memory: &[u64], first: Pointer) -> Address
+    requires { ⌜ (dbr .address + dbr .length ≤ length (now memory)) × Pointer-within first ⌝ }
+    ensures { λ x. ⌜ Addressed (as-dbr dbr) (now (memory .entry)) (as-pointer first) x ⌝ }
+{
+    walk(descriptors_of(dbr, memory), memory, first)
 }
 
 // P off: from IPR. P on: from the PR, in the larger of the two rings.
