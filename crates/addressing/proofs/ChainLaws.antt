@@ -48,21 +48,23 @@ unfolding pointer-answer segment-answer segment-questions ask then-ask
 answer-11 c d m t e = simp e
 
 module _ (ds es : Descriptors) (m : List ℕ) (e : ds .count ≡ es .count) (f : (s : ℕ) → s < ds .count → ds .word s ≡ es .word s) where
+  same-once : (n : ℕ) → ((i : Bool) (t : Pointer) → through n i ds m t ≡ through n i es m t) →
+      (t : Pointer) (b : Bool) → ltb (t .segment) (ds .count) ≡ b → through (suc n) true ds m t ≡ through (suc n) true es m t
+  unfolding through
+  same-once n r t true h =
+      let g = f (t .segment) (ltb-true _ _ h) in
+      ap₂ (λ k y. or-bad k t (64 - suc n) y)
+      (ap₂ (λ c d. pointer-answer c d m t) e g)
+      (r _ _ ∙ ap (λ d. through n (indirect-in (word-through m d (t .word))) es m (pointer-leads d m t)) g)
+  same-once n r t false h =
+      through-refused ds m t n 11 (answer-11 _ _ m t h) (omega arith)
+      ∙ sym (through-refused es m t n 11 (answer-11 _ _ m t (rw (← e) h)) (omega arith))
+
   through-same : (left : ℕ) (i : Bool) (t : Pointer) → through left i ds m t ≡ through left i es m t
   unfolding through
   through-same zero i t = refl
   through-same (suc n) false t = refl
-  through-same (suc n) true t = by-11 (ltb (t .segment) (ds .count)) refl
-    where
-      by-11 : (b : Bool) → ltb (t .segment) (ds .count) ≡ b → through (suc n) true ds m t ≡ through (suc n) true es m t
-      by-11 true h =
-          let g = f (t .segment) (ltb-true _ _ h) in
-          ap₂ (λ k y. or-bad k t (64 - suc n) y)
-          (ap₂ (λ c d. pointer-answer c d m t) e g)
-          (through-same n _ _ ∙ ap (λ d. through n (indirect-in (word-through m d (t .word))) es m (pointer-leads d m t)) g)
-      by-11 false h =
-          through-refused ds m t n 11 (answer-11 _ _ m t h) (omega arith)
-          ∙ sym (through-refused es m t n 11 (answer-11 _ _ m t (rw (← e) h)) (omega arith))
+  through-same (suc n) true t = same-once n (through-same n) t _ refl
 
 pub effective-law : (b : Dbr) (m ws : List ℕ) (t : Pointer) (x : Address) → b .address + b .length ≤ length m → ws ≡ take (b .length) (drop (b .address) m) →
     Walked (lent ws) m t x → Addressed b m t x
@@ -107,7 +109,7 @@ chain-lands : (m : Machine) (f : Pointer → Program) (left : ℕ) (i : Bool) (t
 unfolding chain execute landed through descriptor-of absolute-address word-at pointer-leads descriptor-word word-through
 chain-lands m f zero true t = refl
 chain-lands m f zero false t = refl
-chain-lands m f (suc left) true t = ap (λ k. or-fault k t _) (sym (answer-by-dbr m t)) ∙ landed-after m f _ t _ _ _ (chain-lands m f left _ _)
+chain-lands m f (suc left) true t = rw (← answer-by-dbr m t) (landed-after m f _ t _ _ _ (chain-lands m f left _ _))
 chain-lands m f (suc left) false t = refl
 
 -- AN OPERAND at the end of a chain
@@ -131,8 +133,7 @@ chain-ticks m f none zero h true t = refl
 chain-ticks m f none zero h false t = ap (λ n. n + 64) (none t)
 chain-ticks m f none (suc left) h false t = ap (λ n. n + (64 - suc left)) (none t) ∙ zero-add (64 - suc left)
 chain-ticks m f none (suc left) h true t =
-    ap (λ k. unless-fault k _ + (64 - suc left)) (sym (answer-by-dbr m t))
-    ∙ ticked-after _ _ (64 - suc left) t _ _ (one-less left h _ ∙ chain-ticks m f none left (omega arith) _ _) refl
+    rw (← answer-by-dbr m t) (ticked-after _ _ (64 - suc left) t _ _ (one-less left h _ ∙ chain-ticks m f none left (omega arith) _ _) refl)
 
 nothing-before : (n : ℕ) → n ≡ n + (64 - 64)
 nothing-before n = omega arith

@@ -1,8 +1,8 @@
 -- A walk along a chain that is lent the descriptors' own words: one law for each answer of the code. Assumes nothing.
-use mathlib.Core.Path.{_≡_, refl, sym, ap, _∙_}
+use mathlib.Core.Path.{_≡_, sym, ap, _∙_}
 use mathlib.Core.Bool.{Bool, true, false, not}
 use mathlib.Core.List.{List}
-use Prim.Native.Nat.{ℕ, zero, suc, _+_, _-_, _≤_, _<_}
+use Prim.Native.Nat.{ℕ, suc, _+_, _-_, _≤_, _<_}
 use native.Mathlib.Omega.{arith}
 use lib.ListN.{length, getD}
 use borrow.Author.Tests.{ltb-true, le-ltb, lt-ltb, not-true, not-false}
@@ -31,15 +31,11 @@ module _ (ws : List ℕ) (n s : ℕ) where
   unfolding segment-answer segment-questions ask
   found-11 h = simp (le-ltb _ _ h)
 
-  module _ (k d : ℕ) (h : s < length ws) (e : d ≡ getD ws s 0) (f : k ≡ descriptor-answer n d) where
-    pub found-no : segment-answer (length ws) n s (getD ws s 0) ≡ k
-    unfolding segment-answer
-    found-no = rw (← e) (Translate.segment-answer n _ s d h ∙ sym f)
+  pub found-no : (k d : ℕ) → s < length ws → d ≡ getD ws s 0 → k ≡ descriptor-answer n d → segment-answer (length ws) n s (getD ws s 0) ≡ k
+  unfolding segment-answer
+  found-no k d h e f = rw (← e) (Translate.segment-answer n _ s d h ∙ sym f)
 
-    pub found-kept : k ≡ 0 → Kept ws n s d
-    found-kept z = record { inside = h; same = e; right = sym f ∙ z }
-
-pub ruleset founds = (known-passes, found-11, found-no, found-kept, at-least-one)
+pub ruleset founds = (known-passes, found-11, found-no)
 
 -- 15 AND 22; the pointer is written out, so that a test shows its word
 module _ (r s i d : ℕ) where
@@ -67,10 +63,7 @@ module _ (r s i d : ℕ) where
 
 pub ruleset words = (word-15, word-22, word-passes)
 
--- THE LOOP: before the first pointer word no segment is known
-pub known-none : (ws : List ℕ) (n : ℕ) (d : Descriptor) → Known-right ws n (record { segment = 4096; descriptor = d })
-known-none ws n d = record { kept = λ h. absurd (let z : 4096 ≤ 4095 = h in omega arith) }
-
+-- THE LOOP: a segment that has passed is the known one then, and its words lie within memory
 module _ (ws : List ℕ) (n s : ℕ) (x : Translated) (g : found ws n s x) (d : Descriptor) (e : x ≡ Passed d) where
   kept : Kept ws n s (d .0)
   kept = rw e at g
@@ -81,10 +74,10 @@ module _ (ws : List ℕ) (n s : ℕ) (x : Translated) (g : found ws n s x) (d : 
   pub kept-fits : descriptor-in (d .0) .address + descriptor-in (d .0) .length ≤ n
   kept-fits = right-fits n (d .0) (kept .right)
 
--- z is what the whole chain gives
 one-more : (n : ℕ) → (n ≡ 0 → ⊥) → n ≡ suc (n - 1)
 one-more n h = omega arith
 
+-- z is what the whole chain gives
 module _ (ws m : List ℕ) (t : Pointer) (left : ℕ) (more : Bool) (z : Formed) (s : through left more (lent ws) m t ≡ z) where
   pub good-when-off : more ≡ false → good t (64 - left) ≡ z
   good-when-off e = sym (through-off (lent ws) m t left) ∙ (rw e at s)
@@ -101,15 +94,14 @@ module _ (ws m : List ℕ) (t : Pointer) (left : ℕ) (more : Bool) (z : Formed)
       module _ (x : Translated) (g : found ws (length m) (t .segment) x) where
         pub bad-when-refused : (n : ℕ) → x ≡ Refused n → bad n t (64 - left) ≡ z
         unfolding pointer-answer
-        bad-when-refused n f = let k = rw f at g in bad-here n (rw (k .0) (then-ask-no n _ (λ o. absurd (let q = k .1 in omega (arith, o))))) (k .1)
+        bad-when-refused n f = let k = rw f at g in bad-here n (rw (k .0) (then-ask-no n _ (λ o. let q = k .1 in omega arith))) (k .1)
 
         module _ (d : Descriptor) (f : x ≡ Passed d) (n : ℕ) (a : n ≡ word-answer t (descriptor-in (d .0))) where
-          here : Kept ws (length m) (t .segment) (d .0)
-          here = rw f at g
-
           answer-here : pointer-answer (length ws) (getD ws (t .segment) 0) m t ≡ n
-          unfolding pointer-answer segment-answer then-ask
-          answer-here = rw (← (here .same), Translate.segment-answer (length m) _ (t .segment) (d .0) (here .inside), here .right, ← a)
+          unfolding pointer-answer then-ask
+          answer-here =
+              let y = kept ws (length m) (t .segment) x g d f in
+              rw (found-no ws (length m) (t .segment) 0 (d .0) (y .inside) (y .same) (sym (y .right)), ← (y .same), ← a)
 
           pub bad-when-no : (n ≡ 0 → ⊥) → bad n t (64 - left) ≡ z
           bad-when-no o = bad-here n answer-here (at-least-one n o)
@@ -118,6 +110,6 @@ module _ (ws m : List ℕ) (t : Pointer) (left : ℕ) (more : Bool) (z : Formed)
               p ≡ next-address t (descriptor-in (d .0)) w → i ≡ indirect-in w → through (left - 1) i (lent ws) m p ≡ z
           unfolding pointer-leads
           through-from-next o w i p j q k =
-              rw (q, k, j, here .same) (sym (through-next (lent ws) m t (left - 1) (answer-here ∙ o))) ∙ (rw (e, one-more left h) at s)
+              rw (q, k, j, kept ws (length m) (t .segment) x g d f .same) (sym (through-next (lent ws) m t (left - 1) (answer-here ∙ o))) ∙ (rw (e, one-more left h) at s)
 
-pub ruleset walks = (known-none, known-then, kept-fits, word-inside, good-when-off, bad-when-none-left, bad-when-refused, bad-when-no, through-from-next)
+pub ruleset walks = (known-then, kept-fits, word-inside, good-when-off, bad-when-none-left, bad-when-refused, bad-when-no, through-from-next)

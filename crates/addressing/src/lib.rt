@@ -10,9 +10,9 @@ ghost use Rattle.words.specs.View.{as-pointer, Pointer-within};
 ghost use Rattle.segments.specs.Translation.{as-dbr};
 ghost use Rattle.state.specs.View.{as-pointers, as-registers};
 ghost use Rattle.addressing.specs.Address.{lent, Known-right, found, word-answer, Walked, Addressed};
-use state::Core;
 use segments::translate::Dbr;
 use segments::translate::Translated;
+use state::Core;
 use words::descriptor::Descriptor;
 use words::pointer::Pointer;
 
