@@ -21,28 +21,28 @@ nowhere = record { ring = 0; segment = record { 0 = 0 }; word = record { 0 = 0 }
 nowhere-within : Pointer-within nowhere
 nowhere-within = record { ring-within = omega arith; segment-within = omega arith; word-within = omega arith }
 
-module _ (r : Reply) (c : Core) (p : Pointer) (total last : ℕ) where
-  pub refused-answered : (n : ℕ) → r ≡ Reply.Refused n → n ≤ 255 → p ≡ nowhere → Answers-with r c total last (record { kind = 0; core = c; number = n; pointer = p; count = 0; total = total; last = last })
+module _ (r : Reply) (c : Core) (p : Pointer) (k : ℕ) where
+  pub refused-answered : (n : ℕ) → r ≡ Reply.Refused n → n ≤ 255 → p ≡ nowhere → Answers-with r c k (record { kind = 0; core = c; number = n; pointer = p; count = 0; pointers = k })
   unfolding reply-numbers numbers
   refused-answered n e h f =
-      rw (e, f) (record { numbers-same = refl; core-same = refl; total-same = refl; last-same = refl; fits = record { kind-fits = omega arith; number-fits = h; count-fits = omega arith; pointer-fits = nowhere-within } })
+      rw (e, f) (record { numbers-same = refl; core-same = refl; pointers-same = refl; fits = record { kind-fits = omega arith; number-fits = h; count-fits = omega arith; pointer-fits = nowhere-within } })
 
-  pub spent-answered : (n : ℕ) → r ≡ Reply.Spent n → n ≤ 4294967295 → p ≡ nowhere → Answers-with r c total last (record { kind = 1; core = c; number = 0; pointer = p; count = n; total = total; last = last })
+  pub spent-answered : (n : ℕ) → r ≡ Reply.Spent n → n ≤ 4294967295 → p ≡ nowhere → Answers-with r c k (record { kind = 1; core = c; number = 0; pointer = p; count = n; pointers = k })
   unfolding reply-numbers numbers
   spent-answered n e h f =
-      rw (e, f) (record { numbers-same = refl; core-same = refl; total-same = refl; last-same = refl; fits = record { kind-fits = omega arith; number-fits = omega arith; count-fits = h; pointer-fits = nowhere-within } })
+      rw (e, f) (record { numbers-same = refl; core-same = refl; pointers-same = refl; fits = record { kind-fits = omega arith; number-fits = omega arith; count-fits = h; pointer-fits = nowhere-within } })
 
-  pub halted-answered : (n : ℕ) → r ≡ Reply.Halted n → n ≤ 4294967295 → p ≡ nowhere → Answers-with r c total last (record { kind = 2; core = c; number = 0; pointer = p; count = n; total = total; last = last })
+  pub halted-answered : (n : ℕ) → r ≡ Reply.Halted n → n ≤ 4294967295 → p ≡ nowhere → Answers-with r c k (record { kind = 2; core = c; number = 0; pointer = p; count = n; pointers = k })
   unfolding reply-numbers numbers
   halted-answered n e h f =
-      rw (e, f) (record { numbers-same = refl; core-same = refl; total-same = refl; last-same = refl; fits = record { kind-fits = omega arith; number-fits = omega arith; count-fits = h; pointer-fits = nowhere-within } })
+      rw (e, f) (record { numbers-same = refl; core-same = refl; pointers-same = refl; fits = record { kind-fits = omega arith; number-fits = omega arith; count-fits = h; pointer-fits = nowhere-within } })
 
-pub fault-answered : (r : Reply) (c : Core) (total last i n : ℕ) (t : Pointer) → Reply-within r → r ≡ Reply.Fault i n t → i ≤ 255 → n ≤ 4294967295 →
-    Answers-with r c total last (record { kind = 3; core = c; number = i; pointer = t; count = n; total = total; last = last })
+pub fault-answered : (r : Reply) (c : Core) (k i n : ℕ) (t : Pointer) → Reply-within r → r ≡ Reply.Fault i n t → i ≤ 255 → n ≤ 4294967295 →
+    Answers-with r c k (record { kind = 3; core = c; number = i; pointer = t; count = n; pointers = k })
 unfolding reply-numbers numbers
-fault-answered r c total last i n t w e h k =
+fault-answered r c k i n t w e h g =
     let within : Pointer-within t = subst Reply-within e w in
-    rw e (record { numbers-same = refl; core-same = refl; total-same = refl; last-same = refl; fits = record { kind-fits = omega arith; number-fits = h; count-fits = k; pointer-fits = within } })
+    rw e (record { numbers-same = refl; core-same = refl; pointers-same = refl; fits = record { kind-fits = omega arith; number-fits = h; count-fits = g; pointer-fits = within } })
 
 -- NUMBERS AS A REPLY
 pub reply-of-numbers : (r : Run.Reply) → reply-in (reply-numbers r) ≡ r

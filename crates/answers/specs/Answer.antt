@@ -21,11 +21,10 @@ pub record Answer-fits (x : Answered) : Type 0 where
   pub count-fits : x .count ≤ 4294967295
   pub pointer-fits : Pointer-within (x .pointer)
 
-pub record Answers-with (r : Reply) (c : Core) (total last : ℕ) (x : Answered) : Type 0 where
+pub record Answers-with (r : Reply) (c : Core) (pointers : ℕ) (x : Answered) : Type 0 where
   pub numbers-same : as-numbers x ≡ reply-numbers (as-reply r)
   pub core-same : x .core ≡ c
-  pub total-same : x .total ≡ total
-  pub last-same : x .last ≡ last
+  pub pointers-same : x .pointers ≡ pointers
   pub fits : Answer-fits x
 
 -- the reply that numbers stand for

@@ -9,17 +9,15 @@ use words::pointer::SegmentNumber;
 use words::pointer::WordNumber;
 
 // An answer as numbers, and the core after it. Kinds: 0 refused, 1 spent or completed, 2 halted, 3 fault; what a kind leaves
-// free is 0. `total`: the pointer words of the completed steps; `last`: those of the step at which the run faults. Numbers that C
-// gets side by side stand apart here: else the compiler loads both at once where they were stored one by one just before, and
-// waits for it.
+// free is 0. Numbers that C gets side by side stand apart here: else the compiler loads both at once where they were stored one
+// by one just before, and waits for it.
 pub struct Answered {
     pub kind: u64,
     pub core: Core,
     pub number: u64,
     pub pointer: Pointer,
     pub count: u64,
-    pub total: u64,
-    pub last: u64,
+    pub pointers: u64,
 }
 
 fn no_pointer() -> Pointer
@@ -32,9 +30,9 @@ fn no_pointer() -> Pointer
     }
 }
 
-pub fn answer_of(reply: Reply, core: Core, total: u64, last: u64) -> Answered
+pub fn answer_of(reply: Reply, core: Core, pointers: u64) -> Answered
     requires { ⌜ Reply-within reply ⌝ }
-    ensures { λ x. ⌜ Answers-with reply core total last x ⌝ }
+    ensures { λ x. ⌜ Answers-with reply core pointers x ⌝ }
 {
     match reply {
         Reply::Refused(n) => Answered {
@@ -43,8 +41,7 @@ pub fn answer_of(reply: Reply, core: Core, total: u64, last: u64) -> Answered
             number: n as u64,
             pointer: no_pointer(),
             count: 0,
-            total,
-            last,
+            pointers,
         },
         Reply::Spent(count) => Answered {
             kind: 1,
@@ -52,8 +49,7 @@ pub fn answer_of(reply: Reply, core: Core, total: u64, last: u64) -> Answered
             number: 0,
             pointer: no_pointer(),
             count: count as u64,
-            total,
-            last,
+            pointers,
         },
         Reply::Halted(count) => Answered {
             kind: 2,
@@ -61,8 +57,7 @@ pub fn answer_of(reply: Reply, core: Core, total: u64, last: u64) -> Answered
             number: 0,
             pointer: no_pointer(),
             count: count as u64,
-            total,
-            last,
+            pointers,
         },
         Reply::Fault(n, count, t) => Answered {
             kind: 3,
@@ -70,8 +65,7 @@ pub fn answer_of(reply: Reply, core: Core, total: u64, last: u64) -> Answered
             number: n as u64,
             pointer: t,
             count: count as u64,
-            total,
-            last,
+            pointers,
         },
     }
 }

@@ -279,7 +279,7 @@ module _ (a c : ℕ) (l : List ℕ) where
 pub ruleset lines-of-steps = (few-at, no-line-put, no-line-long, every-line-long, every-line-put)
 
 -- A CHUNK'S RUN AND ITS LINES: 1 to 4 pass, so it is the definition's run; as many lines as the reply counts, and their trace is the definition's
-module _ (b : ℕ) (core : Core) (prs memory l₀ : List ℕ) (x : Answered) (prs-now memory-now l : List ℕ) (w : Answered-as b core prs memory l₀ x prs-now memory-now l)
+module _ (b : ℕ) (core : Core) (prs memory l₀ : List ℕ) (x : Answered) (prs-now memory-now l : List ℕ) (w : Answered-as false b core prs memory l₀ x prs-now memory-now l)
     (passes : start-questions (as-machine core prs memory) ≡ 0) (y : Reply) (r : Replies x y) where
   reply-same : as-reply y ≡ run b (as-machine core prs memory) .reply
   reply-same = r .same ∙ ap reply-in (w .numbers-same) ∙ reply-of-numbers _
@@ -315,18 +315,18 @@ module _ (b : ℕ) (core : Core) (prs memory l₀ : List ℕ) (x : Answered) (pr
       same-lines : step-lines c (noted-steps (take n l)) ≡ step-lines c (trace-from b (as-machine core prs memory))
       same-lines = ap (step-lines c) (same-steps h)
 
-      total-same : x .total ≡ total-of (trace-from b (as-machine core prs memory))
+      total-same : x .pointers ≡ total-of (trace-from b (as-machine core prs memory))
       unfolding total
-      total-same = w .total-same ∙ ap total-of (trace-goes b (as-machine core prs memory) passes)
+      total-same = w .pointers-same ∙ ap total-of (trace-goes b (as-machine core prs memory) passes)
 
-      few-words : x .total ≤ 64 * b
+      few-words : x .pointers ≤ 64 * b
       few-words =
           let g = within-budget in
           let q = total-within b (as-machine core prs memory) in
           let z : reply-numbers (run b (as-machine core prs memory) .reply) .count ≡ x .count = sym (ap (λ (n : Numbers). n .count) (w .numbers-same)) in
-          omega (arith, q, w .total-same, z, count-same, g)
+          omega (arith, q, w .pointers-same, z, count-same, g)
 
-      pub chunk-written : Chunk-written (as-machine core prs memory) c b a t (record { ran = record { reply = y; core = x .core; total = x .total; last = x .last }; length = z })
+      pub chunk-written : Chunk-written (as-machine core prs memory) c b a t (record { ran = record { reply = y; core = x .core; total = x .pointers; last = 0 }; length = z })
           (as-machine (x .core) prs-now memory-now) u
       chunk-written =
           record {

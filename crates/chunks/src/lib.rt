@@ -97,6 +97,7 @@ fn put_chunk(
         memory,
         steps,
         &mut trace,
+        false,
     );
     let reply = answers::reply_of(y);
     let after = y.core;
@@ -105,8 +106,8 @@ fn put_chunk(
         ran: Ran {
             reply,
             core: after,
-            total: y.total,
-            last: y.last,
+            total: y.pointers,
+            last: 0,
         },
         length,
     }

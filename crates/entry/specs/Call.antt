@@ -1,15 +1,15 @@
 -- What a call on a lent record and memory answers and leaves, as a run or as a single step. Assumes nothing: these are definitions.
 use mathlib.Core.Path.{_≡_}
-use mathlib.Core.Bool.{Bool, cond}
+use mathlib.Core.Bool.{Bool}
 use mathlib.Core.List.{List}
-use Prim.Native.Nat.{ℕ, _+_}
+use Prim.Native.Nat.{ℕ}
 use Rattle.model.specs.Answers.{Numbers, reply-numbers}
-use Rattle.model.specs.Questions.{start-questions}
-use Rattle.model.specs.Run.{run, total, fault-count-from}
+use Rattle.model.specs.Run.{run}
 use Rattle.host.specs.Record.{pointer-of, registers-of, machine-of}
 use Rattle.host.specs.declared.record.DescriptorBase.{DescriptorBase}
 use Rattle.host.specs.declared.record.Pointer.{Pointer}
 use Rattle.host.specs.declared.record.Registers.{Registers}
+use Rattle.machine.specs.Answered.{pointers-read}
 use Rattle.entry.specs.declared.Answer.{Answer}
 
 -- a record by its parts
@@ -19,15 +19,8 @@ together a dbr ipr prs = record { a = a; dbr = dbr; ipr = ipr; prs = prs }
 abbrev pub as-numbers : Answer → Numbers
 as-numbers a = record { kind = a .kind; number = a .number; count = a .count; pointer = pointer-of (a .pointer) }
 
--- pointer words with those of the step at which the run faults, or without
-abbrev pub counted : (single : Bool) → (total last : ℕ) → ℕ
-counted s t l = cond s (t + l) t
-
 pub record Call-says (single : Bool) (budget : ℕ) (before : Registers) (memory : List ℕ) (answer : Answer) (after : Registers) (memory-now : List ℕ) : Type 0 where
   pub answer-same : as-numbers answer ≡ reply-numbers (run budget (machine-of before memory) .reply)
   pub registers-same : registers-of after ≡ run budget (machine-of before memory) .machine .registers
   pub memory-same : memory-now ≡ run budget (machine-of before memory) .machine .memory
-  pub last : ℕ
-  pub last-same : start-questions (machine-of before memory) ≡ 0 → last ≡ fault-count-from budget (machine-of before memory)
-  pub last-none : (start-questions (machine-of before memory) ≡ 0 → ⊥) → last ≡ 0
-  pub pointers-same : answer .«pointer_words» ≡ counted single (total budget (machine-of before memory)) last
+  pub pointers-same : answer .«pointer_words» ≡ pointers-read single budget (machine-of before memory)

@@ -1,7 +1,5 @@
 // A call on a register record and a memory that the host lends: a run, or a single step.
-ghost use mathlib.Core.Path.{_≡_};
-ghost use Prim.Native.Nat.{_+_, _^_, _<_};
-ghost use Rattle.entry.specs.Call.{together, counted, Call-says};
+ghost use Rattle.entry.specs.Call.{together, Call-says};
 use host::record::DescriptorBase;
 use host::record::Pointer;
 use host::record::Registers;
@@ -23,17 +21,6 @@ struct Answered {
     pub a: u64,
     pub dbr: DescriptorBase,
     pub ipr: Pointer,
-}
-
-// A single step that faults has its own count; a run leaves out the step at which it faults.
-fn counted(single: bool, total: u64, last: u64) -> u64
-    requires { ⌜ total + last < 2 ^ 64 ⌝ }
-    ensures { λ r. ⌜ r ≡ counted single total last ⌝ }
-{
-    if single {
-        return total + last;
-    }
-    total
 }
 
 // A run on the parts of a record, as one or as a single step: its PRs are lent, the rest comes and goes by value.
@@ -62,6 +49,7 @@ fn run_fields(
         memory,
         budget,
         &mut none,
+        single,
     );
     Answered {
         answer: Answer {
@@ -69,7 +57,7 @@ fn run_fields(
             number: x.number as u32,
             count: x.count as u32,
             pointer: host::record::from_core(x.pointer),
-            pointer_words: counted(single, x.total, x.last),
+            pointer_words: x.pointers,
         },
         a: x.core.a,
         dbr: host::record::from_base(x.core.dbr),

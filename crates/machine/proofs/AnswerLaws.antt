@@ -1,7 +1,8 @@
--- The whole answer, refused or run. Assumes nothing.
-use mathlib.Core.Path.{_≡_, refl, sym, _∙_, ap, subst}
+-- The whole answer, refused or run, with its pointer words. Assumes nothing.
+use mathlib.Core.Path.{_≡_, refl, sym, _∙_, ap, ap₂, subst}
+use mathlib.Core.Bool.{Bool, true, false, cond}
 use mathlib.Core.List.{List}
-use Prim.Native.Nat.{ℕ, zero, suc, _+_, _≤_}
+use Prim.Native.Nat.{ℕ, zero, suc, _+_, _^_, _≤_, _<_}
 use native.Mathlib.Omega.{arith}
 use lib.Dec.{leb}
 use lib.ListN.{length, take}
@@ -10,10 +11,13 @@ use Rattle.model.specs.Registers.{Machine}
 use Rattle.model.specs.Answers.{Numbers, reply-numbers}
 use Rattle.model.specs.Questions.{all, pointer-in-range, registers-in-range, dbr-fits, start-questions}
 use Rattle.model.specs.Run as Run
-use Rattle.model.specs.Run.{ran, run-from, run, total, total-of}
+use Rattle.model.specs.Run.{ran, run-from, run, total, total-of, fault-count}
 use Rattle.model.proofs.BranchLaws.{and-left, and-right}
 use Rattle.model.proofs.QuestionLaws.{ask-yes}
 use Rattle.model.proofs.RunLaws.{run-refused, run-goes, trace-refused, trace-goes}
+use Rattle.model.proofs.TickLaws.{fault-count-goes, fault-count-refused, fault-count-within}
+use Rattle.model.proofs.CountLaws.{run-counts}
+use Rattle.model.proofs.CountedLaws.{total-within}
 use Rattle.words.specs.View.{as-pointer}
 use Rattle.state.specs.View.{as-pointers, as-machine}
 use Rattle.state.specs.declared.Core.{Core}
@@ -25,7 +29,7 @@ use Rattle.run.proofs.RunLaws.{ipr-passing}
 use Rattle.answers.specs.Answer.{Answers-with}
 use Rattle.answers.specs.declared.Answered.{Answered}
 use Rattle.answers.proofs.AnswerLaws.{count-completed}
-use Rattle.machine.specs.Answered.{Answered-as}
+use Rattle.machine.specs.Answered.{pointers-read, Answered-as}
 
 passing-in-record : (c : Core) (prs m : List ℕ) → start-questions (as-machine c prs m) ≡ 0 → In-record c
 unfolding start-questions registers-in-range dbr-fits
@@ -44,9 +48,43 @@ passing-in-record c prs m e =
       length-fits = omega arith;
     }
 
-module _ (b : ℕ) (c : Core) (prs memory trace : List ℕ) (n : ℕ) (e : n ≡ start-questions (as-machine c prs memory)) (x : Answered) where
-  pub refused-whole : (n ≡ 0 → ⊥) → Answers-with (Reply.Refused n) c 0 0 x → Answered-as b c prs memory trace x prs memory trace
-  unfolding ran total total-of
+-- POINTER WORDS as a single step or as a run
+module _ (single : Bool) (t l : ℕ) where
+  pub counted-single : single ≡ true → t + l ≡ cond single (t + l) t
+  counted-single e = rw e
+
+  pub counted-run : single ≡ false → t ≡ cond single (t + l) t
+  counted-run e = rw e
+
+pub ruleset counts = (counted-single, counted-run)
+
+-- a refused run reads none
+none-read : (single : Bool) (b n : ℕ) (m : Machine) → n ≡ start-questions m → (n ≡ 0 → ⊥) → 0 ≡ pointers-read single b m
+unfolding total total-of
+none-read single b zero m e f = absurd (f refl)
+none-read single b (suc n) m e f = by-kind single (ap total-of (trace-refused b n m (sym e))) (fault-count-refused b n m (sym e))
+  where
+    by-kind : (s : Bool) → total b m ≡ 0 → fault-count b m ≡ 0 → 0 ≡ pointers-read s b m
+    by-kind true g h = omega (arith, g, h)
+    by-kind false g h = sym g
+
+module _ (b : ℕ) (m : Machine) (e : start-questions m ≡ 0) (y : Ran) (k : Counted b m y) where
+  total-here : y .total ≡ total b m
+  unfolding total
+  total-here = k .total-same ∙ ap total-of (sym (trace-goes b m e))
+
+  last-here : y .last ≡ fault-count b m
+  last-here = k .last-same ∙ sym (fault-count-goes b m e)
+
+  pub sum-fits : b ≤ 4294967295 → y .total + y .last < 2 ^ 64
+  sum-fits h = omega (arith, total-within b m, run-counts b m .0, fault-count-within b m, total-here, last-here)
+
+  some-read : (single : Bool) (r : ℕ) → r ≡ cond single (y .total + y .last) (y .total) → r ≡ pointers-read single b m
+  some-read single r f = f ∙ ap₂ (λ t l. cond single (t + l) t) total-here last-here
+
+module _ (single : Bool) (b : ℕ) (c : Core) (prs memory trace : List ℕ) (n : ℕ) (e : n ≡ start-questions (as-machine c prs memory)) (x : Answered) where
+  pub refused-whole : (n ≡ 0 → ⊥) → Answers-with (Reply.Refused n) c 0 x → Answered-as single b c prs memory trace x prs memory trace
+  unfolding ran
   refused-whole h a =
       record {
         numbers-same = a .numbers-same ∙ ap (λ (y : Run.Ran). reply-numbers (y .reply)) (sym refuses);
@@ -56,15 +94,9 @@ module _ (b : ℕ) (c : Core) (prs memory trace : List ℕ) (n : ℕ) (e : n ≡
         passes = λ z. absurd (h (e ∙ z));
         trace-size = refl;
         traced = λ z. absurd (h (e ∙ z));
-        total-same = a .total-same ∙ sym (none-read (as-machine c prs memory) n e h);
-        last-same = λ z. absurd (h (e ∙ z));
-        last-none = λ _. a .last-same;
+        pointers-same = a .pointers-same ∙ none-read single b n (as-machine c prs memory) e h;
       }
     where
-      none-read : (m : Machine) (n : ℕ) → n ≡ start-questions m → (n ≡ 0 → ⊥) → total b m ≡ 0
-      none-read m zero e f = absurd (f refl)
-      none-read m (suc n) e f = ap total-of (trace-refused b n m (sym e))
-
       by-number : (m : Machine) (n : ℕ) → n ≡ start-questions m → (n ≡ 0 → ⊥) → run b m ≡ ran (Run.Reply.refused n) m
       by-number m zero e f = absurd (f refl)
       by-number m (suc n) e f = run-refused b n m (sym e)
@@ -73,9 +105,10 @@ module _ (b : ℕ) (c : Core) (prs memory trace : List ℕ) (n : ℕ) (e : n ≡
       refuses = by-number (as-machine c prs memory) n e h
 
   pub run-whole : n ≡ 0 → (y : Ran) (prs-now memory-now trace-now : List ℕ) → Ran-as (run-from b 0 (as-machine c prs memory)) y (as-machine (y .core) prs-now memory-now) →
-      Traced b (as-machine c prs memory) y trace trace-now → Counted b (as-machine c prs memory) y → Answers-with (y .reply) (y .core) (y .total) (y .last) x → Answered-as b c prs memory trace x prs-now memory-now trace-now
-  unfolding ran total
-  run-whole z y prs-now memory-now trace-now r t k a =
+      Traced b (as-machine c prs memory) y trace trace-now → Counted b (as-machine c prs memory) y → (r : ℕ) → r ≡ cond single (y .total + y .last) (y .total) →
+      Answers-with (y .reply) (y .core) r x → Answered-as single b c prs memory trace x prs-now memory-now trace-now
+  unfolding ran
+  run-whole z y prs-now memory-now trace-now r t k i f a =
       let goes : run b (as-machine c prs memory) ≡ ran (as-reply (y .reply)) (as-machine (y .core) prs-now memory-now) = run-goes b (as-machine c prs memory) (sym e ∙ z) ∙ r .same in
       let again : start-questions (as-machine (x .core) prs-now memory-now) ≡ 0 = subst (λ d. start-questions (as-machine d prs-now memory-now) ≡ 0) (sym (a .core-same)) (r .passes) in
       record {
@@ -88,7 +121,5 @@ module _ (b : ℕ) (c : Core) (prs memory trace : List ℕ) (n : ℕ) (e : n ≡
         traced =
             λ _ room.
             ap (λ k. noted-steps (take k trace-now)) (ap (λ (q : Numbers). q .count) (a .numbers-same) ∙ count-completed (y .reply)) ∙ t .traced room;
-        total-same = a .total-same ∙ k .total-same ∙ ap total-of (sym (trace-goes b (as-machine c prs memory) (sym e ∙ z)));
-        last-same = λ _. a .last-same ∙ k .last-same;
-        last-none = λ f. absurd (f (sym e ∙ z));
+        pointers-same = a .pointers-same ∙ some-read b (as-machine c prs memory) (sym e ∙ z) y k single i f;
       }

@@ -1,5 +1,6 @@
 -- 1 to 4 asked of a host's record by a run of no steps, which leaves the machine as it is. Assumes nothing.
 use mathlib.Core.Path.{_≡_, refl, sym, _∙_, ap, subst}
+use mathlib.Core.Bool.{false}
 use mathlib.Core.List.{List}
 use Prim.Native.Nat.{ℕ, zero, suc}
 use native.Mathlib.Omega.{arith}
@@ -38,7 +39,7 @@ unfolding ran run-from
 left-alone m e = ap (λ (y : Run.Ran). y .machine) (run-goes 0 m e)
 
 module _ (r : Registers) (c : Core) (e : Converted r c) (memory trace : List ℕ) (x : Answered) (prs-now memory-now trace-now : List ℕ)
-    (w : Answered-as 0 c (r .prs) memory trace x prs-now memory-now trace-now) where
+    (w : Answered-as false 0 c (r .prs) memory trace x prs-now memory-now trace-now) where
   given : as-machine c (r .prs) memory ≡ machine-of r memory
   given = ap (λ (q : Model.Registers). record { registers = q; memory = memory }) (e .same)
 

@@ -1,8 +1,10 @@
 -- What a run answers, 1 to 4 asked first. Assumes nothing: these are definitions.
 use mathlib.Core.Path.{_≡_}
+use mathlib.Core.Bool.{Bool, cond}
 use mathlib.Core.List.{List}
-use Prim.Native.Nat.{ℕ, _≤_}
+use Prim.Native.Nat.{ℕ, _+_, _≤_}
 use lib.ListN.{length, take}
+use Rattle.model.specs.Registers.{Machine}
 use Rattle.model.specs.Answers.{reply-numbers}
 use Rattle.model.specs.Questions.{start-questions}
 use Rattle.model.specs.Run as Run
@@ -19,8 +21,12 @@ abbrev pub core-of : (a address length ring segment word : ℕ) → Core
 core-of a b l r s w =
     record { a = a; dbr = record { address = b; length = l }; ipr = record { ring = r; segment = record { 0 = s }; word = record { 0 = w } } }
 
+-- the pointer words of a run: its total, and as a single step with those of the step at which it faults
+abbrev pub pointers-read : (single : Bool) → (budget : ℕ) → Machine → ℕ
+pointers-read s b m = cond s (Run.total b m + Run.fault-count b m) (Run.total b m)
+
 -- the definition's run: reply, registers and every word of memory, its pointer words, and its trace where there is room
-pub record Answered-as (budget : ℕ) (c : Core) (prs memory trace : List ℕ) (x : Answered) (prs-now memory-now trace-now : List ℕ) : Type 0 where
+pub record Answered-as (single : Bool) (budget : ℕ) (c : Core) (prs memory trace : List ℕ) (x : Answered) (prs-now memory-now trace-now : List ℕ) : Type 0 where
   pub numbers-same : as-numbers x ≡ reply-numbers (Run.run budget (as-machine c prs memory) .reply)
   pub machine-same : as-machine (x .core) prs-now memory-now ≡ Run.run budget (as-machine c prs memory) .machine
   pub fits : Answer-fits x
@@ -28,9 +34,7 @@ pub record Answered-as (budget : ℕ) (c : Core) (prs memory trace : List ℕ) (
   pub passes : start-questions (as-machine c prs memory) ≡ 0 → start-questions (as-machine (x .core) prs-now memory-now) ≡ 0
   pub trace-size : length trace-now ≡ length trace
   pub traced : start-questions (as-machine c prs memory) ≡ 0 → budget ≤ length trace → noted-steps (take (x .count) trace-now) ≡ Run.trace-from budget (as-machine c prs memory)
-  pub total-same : x .total ≡ Run.total budget (as-machine c prs memory)
-  pub last-same : start-questions (as-machine c prs memory) ≡ 0 → x .last ≡ Run.fault-count-from budget (as-machine c prs memory)
-  pub last-none : (start-questions (as-machine c prs memory) ≡ 0 → ⊥) → x .last ≡ 0
+  pub pointers-same : x .pointers ≡ pointers-read single budget (as-machine c prs memory)
 
 -- 1 to 4 of a host's record, and where they pass the machine itself, as it was
 pub record Prepared-as (r : Registers) (memory : List ℕ) (x : Prepared) (memory-now : List ℕ) : Type 0 where

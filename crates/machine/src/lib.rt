@@ -1,4 +1,7 @@
 // 1 to 4, then a run: the host tests nothing first. Everything below is merged into this one function, the loop of steps with it.
+ghost use mathlib.Core.Bool.{cond};
+ghost use mathlib.Core.Path.{_≡_};
+ghost use Prim.Native.Nat.{_+_, _^_, _<_};
 ghost use Rattle.machine.specs.Answered.{core-of, Answered-as, Prepared-as};
 use answers::Answered;
 use answers::answer_of;
@@ -10,7 +13,18 @@ use words::pointer::Pointer;
 use words::pointer::SegmentNumber;
 use words::pointer::WordNumber;
 
-// A, DBR and IPR come one by one, the PRs where the host has them.
+// A single step that faults has its own pointer words; a run leaves out those of the step at which it faults.
+fn counted(single: bool, total: u64, last: u64) -> u64
+    requires { ⌜ total + last < 2 ^ 64 ⌝ }
+    ensures { λ r. ⌜ r ≡ cond single (total + last) total ⌝ }
+{
+    if single {
+        return total + last;
+    }
+    total
+}
+
+// A, DBR and IPR come one by one, the PRs where the host has them. `single`: pointer words as a single step has them.
 pub fn run(
     a: u64,
     address: u64,
@@ -22,8 +36,9 @@ pub fn run(
     memory: &mut [u64],
     budget: u32,
     trace: &mut [u64],
+    single: bool,
 ) -> Answered
-    ensures { λ x. ⌜ Answered-as budget (core-of a address length ring segment word) (now (prs .entry)) (now (memory .entry)) (now (trace .entry)) x (now (prs .exit)) (now (memory .exit)) (now (trace .exit)) ⌝ }
+    ensures { λ x. ⌜ Answered-as single budget (core-of a address length ring segment word) (now (prs .entry)) (now (memory .entry)) (now (trace .entry)) x (now (prs .exit)) (now (memory .exit)) (now (trace .exit)) ⌝ }
 {
     let core = Core {
         a,
@@ -36,12 +51,12 @@ pub fn run(
     };
     let n = host::start::start_answer(core, prs, memory);
     if n != 0 {
-        return answer_of(Reply::Refused(n), core, 0, 0);
+        return answer_of(Reply::Refused(n), core, 0);
     }
     let y = run::run(core, prs, memory, budget, trace);
     let reply = y.reply;
     let after = y.core;
-    answer_of(reply, after, y.total, y.last)
+    answer_of(reply, after, counted(single, y.total, y.last))
 }
 
 // The number of the first no of 1 to 4, or 0; with 0 the core and its PRs are the record's.
@@ -69,6 +84,7 @@ pub fn prepare(registers: Registers, memory: &mut [u64]) -> Prepared
         memory,
         0,
         &mut none,
+        false,
     );
     let after = x.core;
     if x.kind == 0 {

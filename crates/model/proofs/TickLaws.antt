@@ -9,13 +9,13 @@ use lib.Dec.{eqb}
 use Rattle.model.specs.Words.{Pointer, Instruction}
 use Rattle.model.specs.Registers.{Registers, Machine, dbr-in}
 use Rattle.model.specs.Opcodes.{Access, sets, reads, writes, updates, transfers, calls, returns, loads-dbr, ends-run, Opcode}
-use Rattle.model.specs.Questions.{dbr-fits}
+use Rattle.model.specs.Questions.{dbr-fits, start-questions}
 use Rattle.model.specs.Program.{Program, Outcome, faults, completes, halts, word-at, use-answer, unless-fault, ticks}
 use Rattle.model.specs.Step.{chain, with-operand, load, store, update, transfer, call, return, load-dbr, perform, obey, step-program, step, pointer-words}
-use Rattle.model.specs.Run.{unless-refused, traced, trace-on, trace-from, total-of, total, fault-count-on, fault-count-from, single-count}
-use Rattle.model.specs.Counted.{Pointer-words-within, Fetch-fault-reads-none, Direct-reads-none, No-operand-reads-none, Single-count-of-run, Refused-single-count}
+use Rattle.model.specs.Run.{unless-refused, traced, trace-on, trace-from, total-of, total, fault-count-on, fault-count-from, fault-count, single-count}
+use Rattle.model.specs.Counted.{Pointer-words-within, Fetch-fault-reads-none, Direct-reads-none, No-operand-reads-none, Fault-count-within, Single-count-of-run}
 use Rattle.model.proofs.BranchLaws.{cond-holds}
-use Rattle.model.proofs.RunLaws.{trace-goes}
+use Rattle.model.proofs.RunLaws.{trace-goes, trace-refused}
 
 -- A FAULT ends the count, a yes goes on
 pub unless-fault-no : (n c : ℕ) → 1 ≤ n → unless-fault n c ≡ 0
@@ -109,10 +109,36 @@ unfolding pointer-words step-program ticks with-operand
 no-operand-reads-none m o e f =
     unless-fault-none (use-answer m _ _) _ (rw e (obey-reads-none m _ _ _ o (rw f (perform-without-ticks m _ (o .access) _ _ _))))
 
+-- THE STEP AT WHICH A RUN FAULTS
+pub fault-count-goes : (b : ℕ) (m : Machine) → start-questions m ≡ 0 → fault-count b m ≡ fault-count-from b m
+unfolding fault-count unless-refused
+fault-count-goes b m e = rw e
+
+pub fault-count-refused : (b n : ℕ) (m : Machine) → start-questions m ≡ suc n → fault-count b m ≡ 0
+unfolding fault-count unless-refused
+fault-count-refused b n m e = rw e
+
+fault-count-from-within : (b : ℕ) (m : Machine) → fault-count-from b m ≤ 64
+unfolding fault-count-from fault-count-on
+fault-count-from-within zero m = omega arith
+fault-count-from-within (suc b) m = on (step m) (λ k. fault-count-from-within b k)
+  where
+    on : (x : Outcome) → ((k : Machine) → fault-count-from b k ≤ 64) → fault-count-on (pointer-words m) x (λ k. fault-count-from b k) ≤ 64
+    on (faults n t) f = pointer-words-within m
+    on (halts k) f = omega arith
+    on (completes k) f = f k
+
+pub fault-count-within : Fault-count-within
+fault-count-within b m = by-answer (start-questions m) refl
+  where
+    by-answer : (a : ℕ) → start-questions m ≡ a → fault-count b m ≤ 64
+    by-answer zero e = rw (fault-count-goes b m e) (fault-count-from-within b m)
+    by-answer (suc n) e = rw (fault-count-refused b n m e) (omega arith)
+
 -- A SINGLE STEP
 pub single-count-of-run : Single-count-of-run
 unfolding single-count unless-refused total trace-from trace-on traced total-of fault-count-from fault-count-on
-single-count-of-run m e = rw (trace-goes 1 m e, e) (by-outcome (step m))
+single-count-of-run m = by-answer (start-questions m) refl
   where
     by-outcome : (x : Outcome) →
         pointer-words m ≡ total-of (trace-on (pointer-words m) x (λ k. trace-from 0 k)) + fault-count-on (pointer-words m) x (λ k. fault-count-from 0 k)
@@ -120,6 +146,6 @@ single-count-of-run m e = rw (trace-goes 1 m e, e) (by-outcome (step m))
     by-outcome (halts k) = omega arith
     by-outcome (completes k) = omega arith
 
-pub refused-single-count : Refused-single-count
-unfolding single-count unless-refused
-refused-single-count n m e = rw e
+    by-answer : (a : ℕ) → start-questions m ≡ a → single-count m ≡ total 1 m + fault-count 1 m
+    by-answer zero e = rw (trace-goes 1 m e, fault-count-goes 1 m e, e) (by-outcome (step m))
+    by-answer (suc n) e = rw (trace-refused 1 n m e, fault-count-refused 1 n m e, e)

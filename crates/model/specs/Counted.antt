@@ -6,10 +6,10 @@ use Prim.Native.Nat.{ℕ, suc, _+_, _*_, _≤_}
 use Rattle.model.specs.Words.{Pointer, Instruction, instruction-in}
 use Rattle.model.specs.Registers.{Machine}
 use Rattle.model.specs.Opcodes.{Opcode, decoded}
-use Rattle.model.specs.Questions.{start-questions, fetch-questions}
+use Rattle.model.specs.Questions.{fetch-questions}
 use Rattle.model.specs.Program.{faults, word-at, use-answer}
 use Rattle.model.specs.Step.{step, pointer-words}
-use Rattle.model.specs.Run.{spent, run, after, total, fault-count-from, single-count}
+use Rattle.model.specs.Run.{spent, run, after, total, fault-count, single-count}
 use Rattle.model.specs.Answers.{reply-numbers}
 
 -- 31 lets no step read more
@@ -47,10 +47,10 @@ Total-within = (b : ℕ) (m : Machine) → total b m ≤ 64 * reply-numbers (run
 abbrev pub Total-continues : Type 0
 Total-continues = (j k : ℕ) (m : Machine) → run j m .reply ≡ spent j → total (j + k) m ≡ total j m + total k (after j m)
 
+-- the step at which a run faults reads at most 64 too
+abbrev pub Fault-count-within : Type 0
+Fault-count-within = (b : ℕ) (m : Machine) → fault-count b m ≤ 64
+
 -- A SINGLE STEP'S count is what the run with budget 1 reads, in its completed step or its faulting one
 abbrev pub Single-count-of-run : Type 0
-Single-count-of-run = (m : Machine) → start-questions m ≡ 0 → single-count m ≡ total 1 m + fault-count-from 1 m
-
--- and 0 where it is refused
-abbrev pub Refused-single-count : Type 0
-Refused-single-count = (n : ℕ) (m : Machine) → start-questions m ≡ suc n → single-count m ≡ 0
+Single-count-of-run = (m : Machine) → single-count m ≡ total 1 m + fault-count 1 m

@@ -105,6 +105,9 @@ unfoldable pub fault-count-from : (left : ℕ) → Machine → ℕ
 fault-count-from zero m = 0
 fault-count-from (suc n) m = fault-count-on (pointer-words m) (step m) (λ k. fault-count-from n k)
 
+unfoldable pub fault-count : (budget : ℕ) → Machine → ℕ
+fault-count b m = unless-refused (start-questions m) (λ n. 0) (fault-count-from b m)
+
 -- a single step has its own count, faulting or not
 unfoldable pub single-count : Machine → ℕ
 single-count m = unless-refused (start-questions m) (λ n. 0) (pointer-words m)

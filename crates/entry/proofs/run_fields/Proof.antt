@@ -1,6 +1,6 @@
 -- `run_fields` meets its contract. Assumes nothing.
 use borrow.Author.Needs.{needs}
-use Rattle.entry.proofs.CallLaws.{parts-fit, sum-fits, call-says}
+use Rattle.entry.proofs.CallLaws.{parts-fit, call-says}
 use Rattle.entry.proofs.run_fields.Statement.{statement}
 use Rattle.entry.proofs.run_fields.Tie as tie
 
@@ -28,20 +28,17 @@ cast-t19 c = search (needs, c .before .before .before .before .before .before .r
 from-core-requires : tie.Need-from-core-requires
 from-core-requires c κs = search (needs, c .before .before .before .before .before .before .run .ensures .fits)
 
-counted-requires : tie.Need-counted-requires
-counted-requires c κs = sum-fits _ _ _ _ _ _ _ (c .before .before .before .before .before .before .before .before .before .before .before .before .to-base .ensures .0) (c .before .before .before .before .before .before .before .before .before .before .before .to-core .ensures .0) _ _ _ _ _ _ (c .before .before .before .before .before .before .before .run .ensures) (c .before .before .before .before .before .before .before .run .ensures .fits .count-fits)
-
 from-base-requires : tie.Need-from-base-requires
-from-base-requires c κs = let f = c .before .before .before .before .before .before .before .before .run .ensures .core-fits (parts-fit _ _ _ (c .before .before .before .before .before .before .before .before .before .before .before .before .before .to-base .ensures .1) (c .before .before .before .before .before .before .before .before .before .before .before .before .before .to-base .ensures .2) (c .before .before .before .before .before .before .before .before .before .before .before .before .to-core .ensures .1) (c .before .before .before .before .before .before .before .before .before .before .before .before .to-core .ensures .2) (c .before .before .before .before .before .before .before .before .before .before .before .before .to-core .ensures .3)) in (f .address-fits, f .length-fits)
+from-base-requires c κs = let f = c .before .before .before .before .before .before .before .run .ensures .core-fits (parts-fit _ _ _ (c .before .before .before .before .before .before .before .before .before .before .before .before .to-base .ensures .1) (c .before .before .before .before .before .before .before .before .before .before .before .before .to-base .ensures .2) (c .before .before .before .before .before .before .before .before .before .before .before .to-core .ensures .1) (c .before .before .before .before .before .before .before .before .before .before .before .to-core .ensures .2) (c .before .before .before .before .before .before .before .before .before .before .before .to-core .ensures .3)) in (f .address-fits, f .length-fits)
 
 from-core-requires-2 : tie.Need-from-core-requires-2
-from-core-requires-2 c κs = let f = c .before .before .before .before .before .before .before .before .before .run .ensures .core-fits (parts-fit _ _ _ (c .before .before .before .before .before .before .before .before .before .before .before .before .before .before .to-base .ensures .1) (c .before .before .before .before .before .before .before .before .before .before .before .before .before .before .to-base .ensures .2) (c .before .before .before .before .before .before .before .before .before .before .before .before .before .to-core .ensures .1) (c .before .before .before .before .before .before .before .before .before .before .before .before .before .to-core .ensures .2) (c .before .before .before .before .before .before .before .before .before .before .before .before .before .to-core .ensures .3)) in (f .ring-fits, f .segment-fits, f .word-fits)
+from-core-requires-2 c κs = let f = c .before .before .before .before .before .before .before .before .run .ensures .core-fits (parts-fit _ _ _ (c .before .before .before .before .before .before .before .before .before .before .before .before .before .to-base .ensures .1) (c .before .before .before .before .before .before .before .before .before .before .before .before .before .to-base .ensures .2) (c .before .before .before .before .before .before .before .before .before .before .before .before .to-core .ensures .1) (c .before .before .before .before .before .before .before .before .before .before .before .before .to-core .ensures .2) (c .before .before .before .before .before .before .before .before .before .before .before .before .to-core .ensures .3)) in (f .ring-fits, f .segment-fits, f .word-fits)
 
 same-length : tie.Need-same-length
 same-length c = search needs
 
 returns : tie.Need-returns
-returns c = call-says _ _ _ _ _ _ _ (c .before .before .before .before .before .before .before .before .before .before .before .before .before .before .before .to-base .ensures .0) (c .before .before .before .before .before .before .before .before .before .before .before .before .before .before .to-core .ensures .0) _ _ _ _ _ _ (c .before .before .before .before .before .before .before .before .before .before .run .ensures) _ _ _ _ _ (c .before .before .before .from-core .ensures) (c .from-core2 .ensures) (c .before .from-base .ensures) (c .before .before .counted .ensures)
+returns c = call-says _ _ _ _ _ _ _ (c .before .before .before .before .before .before .before .before .before .before .before .before .before .before .to-base .ensures .0) (c .before .before .before .before .before .before .before .before .before .before .before .before .before .to-core .ensures .0) _ _ _ _ _ _ _ (c .before .before .before .before .before .before .before .before .before .run .ensures) _ _ _ (c .before .before .from-core .ensures) (c .from-core2 .ensures) (c .before .from-base .ensures)
 
 pub run-fields-spec : {M : Type 1} → statement M
 run-fields-spec =
@@ -55,7 +52,6 @@ run-fields-spec =
     cast-t18
     cast-t19
     from-core-requires
-    counted-requires
     from-base-requires
     from-core-requires-2
     same-length
