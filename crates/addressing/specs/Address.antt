@@ -6,17 +6,19 @@ use Prim.Native.Nat.{ℕ, zero, suc, _-_, _<_, _≤_}
 use lib.Dec.{ltb}
 use lib.ListN.{length, getD}
 use Rattle.model.specs.Words as Words
-use Rattle.model.specs.Words.{descriptor-in, indirect-in}
+use Rattle.model.specs.Words.{descriptor-in, pointer-in, indirect-in}
 use Rattle.model.specs.Registers as Registers
 use Rattle.model.specs.Questions.{ask, then-ask, segment-questions, read-questions}
 use Rattle.model.specs.Step.{next-address}
 use Rattle.words.specs.View.{as-pointer, Pointer-within}
 use Rattle.segments.specs.Translation.{descriptor-word, descriptor-answer, word-through}
 use Rattle.segments.specs.declared.translate.Translated.{Translated}
-use Rattle.segments.specs.declared.translate.Translated.the-variants.{Refused, Passed}
+use Rattle.segments.specs.declared.translate.Translated.the-variants as Translated
 use Rattle.addressing.specs.declared.Address.{Address}
 use Rattle.addressing.specs.declared.Address.the-variants.{Bad, Good}
-use Rattle.addressing.specs.declared.Known.{Known}
+use Rattle.addressing.specs.declared.Kept.{Kept}
+use Rattle.addressing.specs.declared.Found.{Found}
+use Rattle.addressing.specs.declared.Found.the-variants as Found
 
 -- DESCRIPTORS: how many there are, and each one's word. By DBR they lie in memory; a walk is lent their own words
 pub record Descriptors : Type 0 where
@@ -79,16 +81,26 @@ pub record Walked (ds : Descriptors) (m : List ℕ) (t : Words.Pointer) (x : Add
 abbrev pub Addressed : Registers.Dbr → (memory : List ℕ) → Words.Pointer → Address → Type 0
 Addressed b m t x = Walked (by-dbr b m) m t x
 
--- ON THE WAY: a descriptor that has passed 11 to 14 for its segment
-pub record Kept (words : List ℕ) (size segment descriptor : ℕ) : Type 0 where
+-- ON THE WAY: TPR is a pointer word and a ring
+unfoldable pub tpr-of : (word ring : ℕ) → Words.Pointer
+tpr-of w n = record { ring = n; segment = pointer-in w .segment; word = pointer-in w .word }
+
+-- a descriptor that has passed 11 to 14 for its segment
+pub record Right (words : List ℕ) (size segment descriptor : ℕ) : Type 0 where
   pub inside : segment < length words
   pub same : descriptor ≡ getD words segment 0
-  pub right : descriptor-answer size descriptor ≡ 0
+  pub passes : descriptor-answer size descriptor ≡ 0
 
-abbrev pub found : (words : List ℕ) → (size segment : ℕ) → Translated → Type 0
-found ws n s (Refused k) = (segment-answer (length ws) n s (getD ws s 0) ≡ k) × (1 ≤ k)
-found ws n s (Passed d) = Kept ws n s (d .0)
+abbrev pub looked : (words : List ℕ) → (size segment : ℕ) → Translated → Type 0
+looked ws n s (Translated.Refused k) = (segment-answer (length ws) n s (getD ws s 0) ≡ k) × (1 ≤ k)
+looked ws n s (Translated.Passed d) = Right ws n s (d .0)
 
--- the one that is known, if any
-pub record Known-right (words : List ℕ) (size : ℕ) (known : Known) : Type 0 where
-  pub kept : known .segment ≤ 4095 → Kept words size (known .segment) (known .descriptor .0)
+-- what is kept has passed, where it is a segment's at all
+pub record Kept-right (words : List ℕ) (size : ℕ) (k : Kept) : Type 0 where
+  pub first : k .segment ≤ 4095 → Right words size (k .segment) (k .descriptor .0)
+  pub second : k .other ≤ 4095 → Right words size (k .other) (k .«others_descriptor» .0)
+
+-- and then the segment asked for is first
+abbrev pub found : (words : List ℕ) → (size segment : ℕ) → Found → Type 0
+found ws n s (Found.Refused k) = (segment-answer (length ws) n s (getD ws s 0) ≡ k) × (1 ≤ k)
+found ws n s (Found.Passed k) = Right ws n s (k .descriptor .0) × Kept-right ws n k
