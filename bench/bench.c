@@ -1,6 +1,6 @@
-/* The library's time against a plain C and a plain Rust processor's, on four programs that loop until the budget is spent, on
- * single steps, on listings, and on the largest images, loaded and converted. They run in turn from the same start, the best
- * time of each counts, and all must end alike. */
+/* The library's time against a plain C and a plain Rust processor's, on programs that loop until the budget is spent, on single
+ * steps, on listings, and on the largest images, loaded and converted. They run in turn from the same start, the best time of
+ * each counts, and all must end alike. With BEFORE an earlier library, whose entries are called before_.., runs among them. */
 #define _POSIX_C_SOURCE 199309L
 
 #include "images.h"
@@ -33,6 +33,12 @@ typedef int64_t convert_function(uint8_t *, size_t);
 run_function rust_run;
 bench_function rust_bench;
 
+#ifdef BEFORE
+run_function before_run;
+step_function before_step;
+bench_function before_bench;
+#endif
+
 /* None of the bench's steps faults; any other answers as a run of one step does. */
 static kuzhlemor_reply rust_step(kuzhlemor_registers *registers, uint64_t *memory, size_t words)
 {
@@ -40,7 +46,13 @@ static kuzhlemor_reply rust_step(kuzhlemor_registers *registers, uint64_t *memor
 }
 
 enum {
-    PLAIN, RUST, LIBRARY, CONTESTANTS
+    PLAIN,
+    RUST,
+#ifdef BEFORE
+    EARLIER,
+#endif
+    LIBRARY,
+    CONTESTANTS
 };
 
 typedef struct {
@@ -52,6 +64,9 @@ typedef struct {
 static const contestant contestants[CONTESTANTS] = {
     [PLAIN] = {plain_run, plain_step, plain_bench},
     [RUST] = {rust_run, rust_step, rust_bench},
+#ifdef BEFORE
+    [EARLIER] = {before_run, before_step, before_bench},
+#endif
     [LIBRARY] = {kuzhlemor_run, kuzhlemor_step, kuzhlemor_bench},
 };
 
@@ -239,8 +254,12 @@ static void keep_least(double *best, double time)
 
 static void print_row(const char *name, uint32_t steps, const double *best)
 {
-    printf("%-32s %10.2f %10.2f %10.2f %12.2f %12.2f\n", name, best[PLAIN] / steps, best[RUST] / steps,
+    printf("%-32s %10.2f %10.2f %10.2f %12.2f %12.2f", name, best[PLAIN] / steps, best[RUST] / steps,
            best[LIBRARY] / steps, best[LIBRARY] / best[PLAIN], best[LIBRARY] / best[RUST]);
+#ifdef BEFORE
+    printf(" %12.2f %14.2f", best[EARLIER] / best[PLAIN], best[LIBRARY] / best[EARLIER]);
+#endif
+    printf("\n");
 }
 
 static void differ(const char *name)
@@ -390,7 +409,11 @@ int main(void)
         {"calls and returns, single steps", calls_and_returns, 100000, BY_STEPS},
     };
 
-    printf("%-32s %10s %10s %10s %12s %12s\n", "", "C", "Rust", "library", "library/C", "library/Rust");
+    printf("%-32s %10s %10s %10s %12s %12s", "", "C", "Rust", "library", "library/C", "library/Rust");
+#ifdef BEFORE
+    printf(" %12s %14s", "before/C", "library/before");
+#endif
+    printf("\n");
     printf("%-32s %10s %10s %10s\n", "program", "ns a step", "ns a step", "ns a step");
     for (size_t k = 0; k < sizeof rows / sizeof rows[0]; k++)
         measure(&rows[k]);
