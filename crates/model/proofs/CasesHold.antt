@@ -89,6 +89,7 @@ readings-hold =
       through-64-has-64 = refl;
       third-is-15 = refl;
       third-unread-has-2 = refl;
+      across-segments-has-2 = refl;
       fault-31-has-64 = refl;
       target-is-23 = refl;
       target-unwritten-has-1 = refl;

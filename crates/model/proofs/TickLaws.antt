@@ -118,6 +118,22 @@ pub fault-count-refused : (b n : ℕ) (m : Machine) → start-questions m ≡ su
 unfolding fault-count unless-refused
 fault-count-refused b n m e = rw e
 
+-- A SINGLE STEP
+pub single-count-of-run : Single-count-of-run
+unfolding single-count unless-refused total trace-from trace-on traced total-of fault-count-from fault-count-on
+single-count-of-run m = by-answer (start-questions m) refl
+  where
+    by-outcome : (x : Outcome) →
+        pointer-words m ≡ total-of (trace-on (pointer-words m) x (λ k. trace-from 0 k)) + fault-count-on (pointer-words m) x (λ k. fault-count-from 0 k)
+    by-outcome (faults n t) = omega arith
+    by-outcome (halts k) = omega arith
+    by-outcome (completes k) = omega arith
+
+    by-answer : (a : ℕ) → start-questions m ≡ a → single-count m ≡ total 1 m + fault-count 1 m
+    by-answer zero e = rw (trace-goes 1 m e, fault-count-goes 1 m e, e) (by-outcome (step m))
+    by-answer (suc n) e = rw (trace-refused 1 n m e, fault-count-refused 1 n m e, e)
+
+-- the step at which a run faults reads no more than any
 fault-count-from-within : (b : ℕ) (m : Machine) → fault-count-from b m ≤ 64
 unfolding fault-count-from fault-count-on
 fault-count-from-within zero m = omega arith
@@ -134,18 +150,3 @@ fault-count-within b m = by-answer (start-questions m) refl
     by-answer : (a : ℕ) → start-questions m ≡ a → fault-count b m ≤ 64
     by-answer zero e = rw (fault-count-goes b m e) (fault-count-from-within b m)
     by-answer (suc n) e = rw (fault-count-refused b n m e) (omega arith)
-
--- A SINGLE STEP
-pub single-count-of-run : Single-count-of-run
-unfolding single-count unless-refused total trace-from trace-on traced total-of fault-count-from fault-count-on
-single-count-of-run m = by-answer (start-questions m) refl
-  where
-    by-outcome : (x : Outcome) →
-        pointer-words m ≡ total-of (trace-on (pointer-words m) x (λ k. trace-from 0 k)) + fault-count-on (pointer-words m) x (λ k. fault-count-from 0 k)
-    by-outcome (faults n t) = omega arith
-    by-outcome (halts k) = omega arith
-    by-outcome (completes k) = omega arith
-
-    by-answer : (a : ℕ) → start-questions m ≡ a → single-count m ≡ total 1 m + fault-count 1 m
-    by-answer zero e = rw (trace-goes 1 m e, fault-count-goes 1 m e, e) (by-outcome (step m))
-    by-answer (suc n) e = rw (trace-refused 1 n m e, fault-count-refused 1 n m e, e)

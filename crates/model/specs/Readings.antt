@@ -5,7 +5,7 @@ use Rattle.model.specs.Registers.{Registers, Machine}
 use Rattle.model.specs.Words.{pointer-word}
 use Rattle.model.specs.Opcodes.{Opcode, LDA, STA, AOS, EAP, TRA, TZE, CALL, LDBR, HLT}
 use Rattle.model.specs.Listing.{ascii}
-use Rattle.model.specs.Notation.{pointer, segment, by-ipr, by-pr, indirect-by-pr, bytes, ST-record, WD-records, image-of}
+use Rattle.model.specs.Notation.{pointer, segment, by-ipr, by-pr, indirect-by-pr, indirect-word, bytes, ST-record, WD-records, image-of}
 use Rattle.model.specs.Cases.{step-faults, ipr-becomes, pr-becomes, word-becomes, step-counts, run-lists, image-prints, image-converts, Holds, about-to-do, about-to, through-pointer, case-12-registers, pointers-up, through-pointers}
 
 -- the instruction and one word in segment 1
@@ -84,6 +84,7 @@ pub record Readings : Type 0 where
   pub through-64-has-64 : Holds (step-counts (through-pointers 64) 64)
   pub third-is-15 : Holds (step-faults (through LDA 2 (pointers-up 3 0)) 15 (pointer 4 1 2))
   pub third-unread-has-2 : Holds (step-counts (through LDA 2 (pointers-up 3 0)) 2)
+  pub across-segments-has-2 : Holds (step-counts (through EAP 1 (indirect-word (pointer 4 0 0) ∷ [])) 2)
   pub fault-31-has-64 : Holds (step-counts (through-pointers 65) 64)
   pub target-is-23 : Holds (step-faults (through STA 1 (pointer-word (pointer 4 0 0) ∷ [])) 23 (pointer 4 0 0))
   pub target-unwritten-has-1 : Holds (step-counts (through STA 1 (pointer-word (pointer 4 0 0) ∷ [])) 1)
