@@ -1,6 +1,6 @@
-/* The library's time against a plain C and a plain Rust processor's, on four programs that loop until the budget is spent, on
- * single steps, on listings, and on the largest images, loaded and converted. They run in turn from the same start, the best
- * time of each counts, and all must end alike. */
+/* The library's time against a plain C and a plain Rust processor's, on programs that loop until the budget is spent, on single
+ * steps, on listings, and on the largest images, loaded and converted. They run in turn from the same start, the best time of
+ * each counts, and all must end alike. With BEFORE an earlier library, whose entries are called before_.., runs among them. */
 #define _POSIX_C_SOURCE 199309L
 
 #include "images.h"
@@ -33,6 +33,12 @@ typedef int64_t convert_function(uint8_t *, size_t);
 run_function rust_run;
 bench_function rust_bench;
 
+#ifdef BEFORE
+run_function before_run;
+step_function before_step;
+bench_function before_bench;
+#endif
+
 /* None of the bench's steps faults; any other answers as a run of one step does. */
 static kuzhlemor_reply rust_step(kuzhlemor_registers *registers, uint64_t *memory, size_t words)
 {
@@ -40,7 +46,13 @@ static kuzhlemor_reply rust_step(kuzhlemor_registers *registers, uint64_t *memor
 }
 
 enum {
-    PLAIN, RUST, LIBRARY, CONTESTANTS
+    PLAIN,
+    RUST,
+#ifdef BEFORE
+    EARLIER,
+#endif
+    LIBRARY,
+    CONTESTANTS
 };
 
 typedef struct {
@@ -52,6 +64,9 @@ typedef struct {
 static const contestant contestants[CONTESTANTS] = {
     [PLAIN] = {plain_run, plain_step, plain_bench},
     [RUST] = {rust_run, rust_step, rust_bench},
+#ifdef BEFORE
+    [EARLIER] = {before_run, before_step, before_bench},
+#endif
     [LIBRARY] = {kuzhlemor_run, kuzhlemor_step, kuzhlemor_bench},
 };
 
@@ -148,21 +163,45 @@ static machine calls_and_returns(void)
     return m;
 }
 
-/* Every operand stands at the end of 64 pointer words. */
-static machine pointer_chains(void)
+enum {
+    CHAIN = 64
+};
+
+/* A chain of pointer words from a word of the data on, by turns in so many segments from 5 on, and its target. */
+static void put_chain(uint64_t *data, unsigned from, unsigned segments, kuzhlemor_pointer target)
+{
+    for (unsigned k = 0; k < CHAIN - 1; k++)
+        data[from + k] = pointer_word(pointer_to(4, 5 + (k + 1) % segments, from + k + 1)) | POINTER_I_ON;
+    data[from + CHAIN - 1] = pointer_word(target);
+}
+
+/* Every step reads 64 pointer words, the transfer back as well. Segments 5 and 6 are the same words. */
+static machine chained(unsigned segments)
 {
     machine m = start();
     uint64_t *code = &m.memory[16];
     uint64_t *data = &m.memory[64];
 
-    for (unsigned k = 0; k < 64; k++)
-        data[k] = pointer_word(pointer_to(4, 5, k + 1)) | (k < 63 ? POINTER_I_ON : 0);
-    data[64] = 1;
+    m.memory[5] = m.memory[6] = descriptor_word(64, 2 * CHAIN + 1, 4, 4, 4, R | W | V, 0);
+    m.registers.prs[3] = pointer_to(4, 5, CHAIN + 1);
+    put_chain(data, 0, segments, pointer_to(4, 5, CHAIN));
+    data[CHAIN] = 1;
+    put_chain(data, CHAIN + 1, segments, pointer_to(4, 4, 0));
     code[0] = by_pr(LDA, 1, 0) | I_ON;
     for (int k = 1; k < 15; k++)
         code[k] = by_pr(ADA, 1, 0) | I_ON;
-    code[15] = near(TRA, -15);
+    code[15] = by_pr(TRA, 3, 0) | I_ON;
     return m;
+}
+
+static machine pointer_chains(void)
+{
+    return chained(1);
+}
+
+static machine alternating_chains(void)
+{
+    return chained(2);
 }
 
 /* A run by single steps. */
@@ -215,8 +254,12 @@ static void keep_least(double *best, double time)
 
 static void print_row(const char *name, uint32_t steps, const double *best)
 {
-    printf("%-32s %10.2f %10.2f %10.2f %12.2f %12.2f\n", name, best[PLAIN] / steps, best[RUST] / steps,
+    printf("%-32s %10.2f %10.2f %10.2f %12.2f %12.2f", name, best[PLAIN] / steps, best[RUST] / steps,
            best[LIBRARY] / steps, best[LIBRARY] / best[PLAIN], best[LIBRARY] / best[RUST]);
+#ifdef BEFORE
+    printf(" %12.2f %14.2f", best[EARLIER] / best[PLAIN], best[LIBRARY] / best[EARLIER]);
+#endif
+    printf("\n");
 }
 
 static void differ(const char *name)
@@ -359,13 +402,18 @@ int main(void)
         {"arithmetic", arithmetic, 100000, AS_RUN},
         {"loads and stores", loads_and_stores, 100000, AS_RUN},
         {"calls and returns", calls_and_returns, 100000, AS_RUN},
-        {"pointer chains", pointer_chains, 5000, AS_RUN},
+        {"10,000 chains", pointer_chains, 10000, AS_RUN},
+        {"10,000 chains, two segments", alternating_chains, 10000, AS_RUN},
         {"arithmetic, single steps", arithmetic, 100000, BY_STEPS},
         {"loads and stores, single steps", loads_and_stores, 100000, BY_STEPS},
         {"calls and returns, single steps", calls_and_returns, 100000, BY_STEPS},
     };
 
-    printf("%-32s %10s %10s %10s %12s %12s\n", "", "C", "Rust", "library", "library/C", "library/Rust");
+    printf("%-32s %10s %10s %10s %12s %12s", "", "C", "Rust", "library", "library/C", "library/Rust");
+#ifdef BEFORE
+    printf(" %12s %14s", "before/C", "library/before");
+#endif
+    printf("\n");
     printf("%-32s %10s %10s %10s\n", "program", "ns a step", "ns a step", "ns a step");
     for (size_t k = 0; k < sizeof rows / sizeof rows[0]; k++)
         measure(&rows[k]);

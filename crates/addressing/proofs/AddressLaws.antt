@@ -1,4 +1,4 @@
--- Where a pointer word leads and the first address, one law for each answer, from facts as the code's tests and callees give them. Assumes nothing.
+-- TPR of a pointer word, the ring where it leads and the first address, one law for each answer, from facts as the code's tests and callees give them. Assumes nothing.
 use mathlib.Core.Path.{_≡_, refl, sym, ap, _∙_, subst}
 use mathlib.Core.Bool.{Bool, true, false, not}
 use mathlib.Core.List.{List}
@@ -13,18 +13,24 @@ use Rattle.model.specs.Step.{first-address, next-address}
 use Rattle.model.proofs.WordLaws.{Within, in-range-within}
 use Rattle.model.proofs.ListLaws.{all-get}
 use Rattle.state.specs.View.{as-pointers, pr-of}
+use Rattle.addressing.specs.Address.{tpr-of}
 
--- WHERE A POINTER WORD LEADS
-pub next-address-same : (t : Pointer) (d : Words.Descriptor) (w l k n s i r : ℕ) →
-    _≡_ {A = Pointer} (record { ring = n; segment = s; word = i }) (pointer-in w) → r ≡ d .r1 →
-    l ≡ max (t .ring) r → k ≡ max l n → _≡_ {A = Pointer} (record { ring = k; segment = s; word = i }) (next-address t d w)
+-- A POINTER WORD AND A RING
+pub tpr-same : (w k n s i : ℕ) → _≡_ {A = Pointer} (record { ring = n; segment = s; word = i }) (pointer-in w) →
+    _≡_ {A = Pointer} (record { ring = k; segment = s; word = i }) (tpr-of w k)
+unfolding tpr-of
+tpr-same w k n s i e = ap (λ (p : Pointer). record { ring = k; segment = p .segment; word = p .word }) e
+
+-- the ring where a pointer word leads
+pub next-ring-same : (t : Pointer) (d : Words.Descriptor) (w l k n s i r : ℕ) → _≡_ {A = Pointer} (record { ring = n; segment = s; word = i }) (pointer-in w) →
+    r ≡ d .r1 → l ≡ max (t .ring) r → k ≡ max l n → k ≡ next-address t d w .ring
 unfolding next-address with-ring-at-least
-next-address-same t d w l k n s i r e h f g = rw (g, f, h) (ap (with-ring-at-least (max (t .ring) (d .r1))) e)
+next-ring-same t d w l k n s i r e h f g = rw (g, f, h) (ap (λ (p : Pointer). max (max (t .ring) (d .r1)) (p .ring)) e)
 
 pub larger-within : (k x y z : ℕ) → k ≡ max x y → x ≤ z → y ≤ z → k ≤ z
 larger-within k x y z e f g = omega arith
 
-pub ruleset leads = (next-address-same, larger-within)
+pub ruleset rings = (next-ring-same, larger-within)
 
 -- THE FIRST ADDRESS
 module _ (i : Instruction) (b : Bool) (n : ℕ) (e : b ≡ i .p) (f : n ≡ i .offset) (q : Pointer) where

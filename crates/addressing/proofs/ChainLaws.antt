@@ -1,21 +1,21 @@
--- The chain of pointer words, one law for each turn of the code; the model's chain goes where `through` does. Assumes nothing.
-use mathlib.Core.Path.{_≡_, refl, sym, ap, _∙_}
+-- The chain of pointer words: by DBR or by the descriptors' own words it is one, and the model's chain goes where it does. Assumes nothing.
+use mathlib.Core.Path.{_≡_, refl, sym, ap, ap₂, _∙_}
 use mathlib.Core.Bool.{Bool, true, false}
 use mathlib.Core.List.{List}
-use Prim.Native.Nat.{ℕ, zero, suc, _+_, _-_, _≤_}
+use Prim.Native.Nat.{ℕ, zero, suc, _+_, _-_, _≤_, _<_}
 use native.Mathlib.Nat.{zero-add}
 use native.Mathlib.Omega.{arith}
-use Rattle.model.specs.Words.{Pointer, indirect-in, descriptor-in}
+use lib.Dec.{ltb}
+use lib.ListN.{length, getD, take, drop, length-take, length-drop}
+use lib.Seq.{getD-drop, getD-take}
+use borrow.Author.Tests.{ltb-true}
+use Rattle.model.specs.Words.{Pointer, indirect-in}
 use Rattle.model.specs.Registers.{Dbr, Machine}
 use Rattle.model.specs.Program.{Program, Outcome, faults, execute, descriptor-of, absolute-address, word-at, use-answer, or-fault, unless-fault, ticks}
-use Rattle.model.specs.Questions.{read-questions}
-use Rattle.model.specs.Step.{next-address, chain}
-use Rattle.words.specs.declared.descriptor.Descriptor.{Descriptor}
-use Rattle.segments.specs.Translation.{descriptor-word, use-at, use-by, word-through, accessed}
-use Rattle.segments.specs.declared.access.Accessed.{Accessed}
-use Rattle.segments.specs.declared.access.Accessed.the-variants.{Refused, Word}
-use Rattle.segments.proofs.UseLaws.{looks-passes}
-use Rattle.addressing.specs.Address.{pointer-answer, pointer-word-at, pointer-leads, Formed, bad, good, or-bad, read-by, through, as-formed, Addressed}
+use Rattle.model.specs.Questions.{ask, then-ask, segment-questions, use-questions, read-questions}
+use Rattle.model.specs.Step.{chain}
+use Rattle.segments.specs.Translation.{descriptor-word, word-through}
+use Rattle.addressing.specs.Address.{Descriptors, by-dbr, lent, segment-answer, word-answer, pointer-answer, pointer-leads, Formed, bad, good, or-bad, read-by, through, as-formed, Walked, Addressed}
 use Rattle.addressing.specs.declared.Address.{Address}
 
 or-bad-no : (k : ℕ) (t : Pointer) (c : ℕ) (x : Formed) → 1 ≤ k → or-bad k t c x ≡ bad k t c
@@ -23,53 +23,63 @@ unfolding or-bad
 or-bad-no zero t c x h = absurd (let z : 1 ≤ 0 = h in omega arith)
 or-bad-no (suc k) t c x h = refl
 
-module _ (b : Dbr) (m : List ℕ) (t : Pointer) where
-  through-off : (left : ℕ) → through left false b m t ≡ good t (64 - left)
+module _ (ds : Descriptors) (m : List ℕ) (t : Pointer) where
+  pub through-off : (left : ℕ) → through left false ds m t ≡ good t (64 - left)
   unfolding through
   through-off zero = refl
   through-off (suc n) = refl
 
-  through-none-left : through zero true b m t ≡ bad 31 t 64
+  pub through-none-left : through zero true ds m t ≡ bad 31 t 64
   unfolding through
   through-none-left = refl
 
-  through-refused : (n k : ℕ) → pointer-answer b m t ≡ k → 1 ≤ k → through (suc n) true b m t ≡ bad k t (64 - suc n)
+  pub through-refused : (n k : ℕ) → pointer-answer (ds .count) (ds .word (t .segment)) m t ≡ k → 1 ≤ k → through (suc n) true ds m t ≡ bad k t (64 - suc n)
   unfolding through
   through-refused n k e h = rw e (or-bad-no k t _ _ h)
 
-  through-next : (n : ℕ) → pointer-answer b m t ≡ 0 →
-      through (suc n) true b m t ≡ through n (indirect-in (pointer-word-at b m t)) b m (pointer-leads b m t)
+  pub through-next : (n : ℕ) → pointer-answer (ds .count) (ds .word (t .segment)) m t ≡ 0 →
+      let d = ds .word (t .segment) in through (suc n) true ds m t ≡ through n (indirect-in (word-through m d (t .word))) ds m (pointer-leads d m t)
   unfolding through or-bad
   through-next n e = rw e
 
-one-more : (n : ℕ) → (n ≡ 0 → ⊥) → n ≡ suc (n - 1)
-one-more n h = omega arith
+-- THE DESCRIPTORS' OWN WORDS are those by DBR: past their end 11 is no, whatever stands there
+answer-11 : (c d : ℕ) (m : List ℕ) (t : Pointer) → ltb (t .segment) c ≡ false → pointer-answer c d m t ≡ 11
+unfolding pointer-answer segment-answer segment-questions ask then-ask
+answer-11 c d m t e = simp e
 
--- z is what the whole chain gives
-module _ (b : Dbr) (m : List ℕ) (t : Pointer) (left : ℕ) (more : Bool) (z : Formed) (s : through left more b m t ≡ z) where
-  pub good-when-off : more ≡ false → good t (64 - left) ≡ z
-  good-when-off e = sym (through-off b m t left) ∙ (rw e at s)
+module _ (ds es : Descriptors) (m : List ℕ) (e : ds .count ≡ es .count) (f : (s : ℕ) → s < ds .count → ds .word s ≡ es .word s) where
+  same-once : (n : ℕ) → ((i : Bool) (t : Pointer) → through n i ds m t ≡ through n i es m t) →
+      (t : Pointer) (b : Bool) → ltb (t .segment) (ds .count) ≡ b → through (suc n) true ds m t ≡ through (suc n) true es m t
+  unfolding through
+  same-once n r t true h =
+      let g = f (t .segment) (ltb-true _ _ h) in
+      ap₂ (λ k y. or-bad k t (64 - suc n) y)
+      (ap₂ (λ c d. pointer-answer c d m t) e g)
+      (r _ _ ∙ ap (λ d. through n (indirect-in (word-through m d (t .word))) es m (pointer-leads d m t)) g)
+  same-once n r t false h =
+      through-refused ds m t n 11 (answer-11 _ _ m t h) (omega arith)
+      ∙ sym (through-refused es m t n 11 (answer-11 _ _ m t (rw (← e) h)) (omega arith))
 
-  module _ (e : more ≡ true) where
-    pub bad-when-none-left : left ≡ 0 → bad 31 t 64 ≡ z
-    bad-when-none-left f = sym (through-none-left b m t) ∙ (rw (e, f) at s)
+  through-same : (left : ℕ) (i : Bool) (t : Pointer) → through left i ds m t ≡ through left i es m t
+  unfolding through
+  through-same zero i t = refl
+  through-same (suc n) false t = refl
+  through-same (suc n) true t = same-once n (through-same n) t _ refl
 
-    module _ (h : left ≡ 0 → ⊥) (x : Accessed) (g : accessed b m t (read-questions t) x) where
-      pub bad-when-refused : (n : ℕ) → x ≡ Refused n → bad n t (64 - left) ≡ z
-      unfolding pointer-answer
-      bad-when-refused n f =
-          let k = rw f at g in
-          ap (λ i. bad n t (64 - i)) (one-more left h) ∙ sym (through-refused b m t (left - 1) n (k .0) (k .1)) ∙ (rw (e, one-more left h) at s)
+pub effective-law : (b : Dbr) (m ws : List ℕ) (t : Pointer) (x : Address) → b .address + b .length ≤ length m → ws ≡ take (b .length) (drop (b .address) m) →
+    Walked (lent ws) m t x → Addressed b m t x
+unfolding descriptor-word
+effective-law b m ws t x h e s =
+    record {
+      same = s .same ∙ through-same (lent ws) (by-dbr b m) m long same 64 true t;
+      within = s .within;
+    }
+  where
+    long : length ws ≡ b .length
+    long = rw e (simp (length-take, length-drop) (omega arith))
 
-      pub through-from-next : (d : Descriptor) (w : ℕ) (i : Bool) (p : Pointer) → x ≡ Word d w → p ≡ next-address t (descriptor-in (d .0)) w → i ≡ indirect-in w →
-          through (left - 1) i b m p ≡ z
-      unfolding pointer-answer pointer-word-at pointer-leads
-      through-from-next d w i p f j k =
-          let r = rw f at g in
-          rw (j, k, r .word-same, r .looks .found .same) (sym (through-next b m t (left - 1) (looks-passes b m t (read-questions t) (d .0) (r .looks))))
-          ∙ (rw (e, one-more left h) at s)
-
-pub ruleset chains = (good-when-off, bad-when-none-left, bad-when-refused, through-from-next)
+    same : (k : ℕ) → k < length ws → getD ws k 0 ≡ getD m (b .address + k) 0
+    same k g = let g : k < b .length = rw (← long) g in rw e (rw (getD-take, getD-drop))
 
 -- where a chain goes, what is done there; else its fault
 unfoldable pub landed : Machine → (Pointer → Program) → Formed → Outcome
@@ -82,12 +92,24 @@ unfolding landed or-fault or-bad
 landed-after m f zero t c x y e = e
 landed-after m f (suc k) t c x y e = refl
 
+-- 11 to 15 and then 22, or 11 to 14 and then both
+asked-in-turn : (k : ℕ) (b : Bool) (n x : ℕ) → then-ask k (ask b (suc n) x) ≡ then-ask (then-ask k (ask b (suc n) 0)) x
+unfolding then-ask ask
+asked-in-turn zero true n x = refl
+asked-in-turn zero false n x = refl
+asked-in-turn (suc k) b n x = refl
+
+answer-by-dbr : (m : Machine) (t : Pointer) →
+    let b = m .registers .dbr in pointer-answer (b .length) (descriptor-word b (m .memory) (t .segment)) (m .memory) t ≡ use-answer m t (read-questions t)
+unfolding pointer-answer segment-answer word-answer use-answer descriptor-of descriptor-word use-questions segment-questions
+answer-by-dbr m t = asked-in-turn _ _ 14 _
+
 chain-lands : (m : Machine) (f : Pointer → Program) (left : ℕ) (i : Bool) (t : Pointer) →
-    execute m (chain left i t f) ≡ landed m f (through left i (m .registers .dbr) (m .memory) t)
-unfolding chain execute landed through use-answer descriptor-of absolute-address word-at pointer-answer pointer-word-at pointer-leads use-by use-at descriptor-word word-through
+    execute m (chain left i t f) ≡ landed m f (through left i (by-dbr (m .registers .dbr) (m .memory)) (m .memory) t)
+unfolding chain execute landed through descriptor-of absolute-address word-at pointer-leads descriptor-word word-through
 chain-lands m f zero true t = refl
 chain-lands m f zero false t = refl
-chain-lands m f (suc left) true t = landed-after m f _ t _ _ _ (chain-lands m f left _ _)
+chain-lands m f (suc left) true t = rw (← answer-by-dbr m t) (landed-after m f _ t _ _ _ (chain-lands m f left _ _))
 chain-lands m f (suc left) false t = refl
 
 -- AN OPERAND at the end of a chain
@@ -105,13 +127,13 @@ one-less : (left : ℕ) → suc left ≤ 64 → (n : ℕ) → suc n + (64 - suc 
 one-less left h n = omega arith
 
 chain-ticks : (m : Machine) (f : Pointer → Program) → ((t : Pointer) → ticks m (f t) ≡ 0) → (left : ℕ) → left ≤ 64 → (i : Bool) (t : Pointer) →
-    ticks m (chain left i t f) + (64 - left) ≡ read-by (through left i (m .registers .dbr) (m .memory) t)
-unfolding chain ticks read-by through use-answer descriptor-of absolute-address word-at pointer-answer pointer-word-at pointer-leads use-by use-at descriptor-word word-through
+    ticks m (chain left i t f) + (64 - left) ≡ read-by (through left i (by-dbr (m .registers .dbr) (m .memory)) (m .memory) t)
+unfolding chain ticks read-by through descriptor-of absolute-address word-at pointer-leads descriptor-word word-through
 chain-ticks m f none zero h true t = refl
 chain-ticks m f none zero h false t = ap (λ n. n + 64) (none t)
 chain-ticks m f none (suc left) h false t = ap (λ n. n + (64 - suc left)) (none t) ∙ zero-add (64 - suc left)
 chain-ticks m f none (suc left) h true t =
-    ticked-after _ _ (64 - suc left) t _ _ (one-less left h _ ∙ chain-ticks m f none left (omega arith) _ _) refl
+    rw (← answer-by-dbr m t) (ticked-after _ _ (64 - suc left) t _ _ (one-less left h _ ∙ chain-ticks m f none left (omega arith) _ _) refl)
 
 nothing-before : (n : ℕ) → n ≡ n + (64 - 64)
 nothing-before n = omega arith

@@ -1,3 +1,4 @@
 -- Laws of this crate. Assumes nothing.
 pub mod AddressLaws
 pub mod ChainLaws
+pub mod WalkLaws

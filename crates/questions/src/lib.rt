@@ -27,7 +27,7 @@ fn is_executable(d: Descriptor, p: Pointer) -> bool
 }
 
 // 22: R on, and the ring in the read bracket?
-fn is_readable(d: Descriptor, p: Pointer) -> bool
+pub fn is_readable(d: Descriptor, p: Pointer) -> bool
     ensures { λ r. ⌜ r ≡ Questions.may-read (as-pointer p) (descriptor-in (d .0)) ⌝ }
 {
     words::descriptor::is_read_on(d) & (p.ring <= words::descriptor::r2_of(d))
