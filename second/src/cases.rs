@@ -1,15 +1,9 @@
 //! The thirteen proved cases of document 01.
 
 use crate::machine::{step, Fault, Registers, Reply};
+use crate::opcodes::*;
 use crate::words::{Dbr, Descriptor, Instruction, Pointer, PointerWord};
 use crate::{bench, list};
-
-const LDA: u8 = 1;
-const STA: u8 = 2;
-const LDI: u8 = 10;
-const EAP: u8 = 16;
-const CALL: u8 = 32;
-const RETURN: u8 = 33;
 
 /// The instruction's segment: words 16 to 23, open to every ring.
 const CODE: u16 = 1;

@@ -4,8 +4,8 @@
 //! It reads like the paper: `words` has the descriptor, the pointer word and the instruction; `machine` the registers,
 //! the questions, a step and a run; `image` the records; `listing` the text; `bench` the call of the bench's firmware;
 //! `convert` the program for stored images. `repeats` has directed images and `pointers` directed machines with what each
-//! of them asks for; they are for the tests and the comparison. A comment that starts with a number is the question of
-//! that number.
+//! of them asks for, and `opcodes` the numbers that they use; they are for the tests and the comparison. A comment that
+//! starts with a number is the question of that number.
 
 #![forbid(unsafe_code)]
 
@@ -14,6 +14,7 @@ pub mod convert;
 pub mod image;
 pub mod listing;
 pub mod machine;
+pub mod opcodes;
 pub mod pointers;
 pub mod repeats;
 pub mod words;

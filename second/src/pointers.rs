@@ -2,6 +2,7 @@
 
 use crate::image::Image;
 use crate::machine::{Fault, Registers, Reply};
+use crate::opcodes::*;
 use crate::words::{Dbr, Descriptor, Instruction, Pointer, PointerWord};
 
 /// A machine and what it asks for.
@@ -72,22 +73,6 @@ impl Case {
         }
     }
 }
-
-const LDA: u8 = 1;
-const STA: u8 = 2;
-const ADA: u8 = 3;
-const CNT: u8 = 8;
-const AOS: u8 = 9;
-const LDI: u8 = 10;
-const EAP: u8 = 16;
-const SPP: u8 = 17;
-const TRA: u8 = 24;
-const TZE: u8 = 25;
-const TMI: u8 = 26;
-const CALL: u8 = 32;
-const RETURN: u8 = 33;
-const LDBR: u8 = 40;
-const HLT: u8 = 41;
 
 /// Words 16 to 23.
 const CODE: u16 = 1;

@@ -3,7 +3,7 @@ use mathlib.Core.Path.{_≡_, refl, sym, _∙_, ap, ap₂, subst}
 use mathlib.Core.Bool.{Bool, true, false, false≢true, true≢false}
 use mathlib.Core.List.{List, [], _∷_, _++_, append-nil, append-assoc, map-append}
 use Prim.Native.Nat.{ℕ, zero, suc, _+_, _*_, _/_, _^_, _≤_, _<_}
-use native.Mathlib.Nat.{add-assoc}
+use native.Mathlib.Nat.{add-zero, add-assoc}
 use native.Mathlib.Numerals.{add-one}
 use native.Mathlib.Omega.{arith}
 use lib.ListN.{length, take, drop, getD, length-append, length-map}
@@ -38,23 +38,20 @@ use Rattle.chunks.specs.Chunk.{text-from, Few, ends-run, ending, Chunk-w
 use Rattle.text.proofs.TextLaws.{placed-none, length-placed, next-after, put-after}
 
 -- WHAT IS STILL TO COME, by how the next step ends
-none-more : (t : ℕ) → t + 0 ≡ t
-none-more t = omega arith
-
 pub text-spent : (c t : ℕ) (m : Machine) → text-from 0 c t m ≡ last-line (spent c) t
 unfolding text-from trace-from run-from step-lines ran total-of
-text-spent c t m = ap (last-line (spent c)) (none-more t)
+text-spent c t m = ap (last-line (spent c)) (add-zero t)
 
 text-faults : (b c s n : ℕ) (t : Pointer) (m : Machine) → step m ≡ faults n t → text-from (suc b) c s m ≡ last-line (fault n c t) s
 unfolding text-from step-lines ran total-of
-text-faults b c s n t m e = rw (trace-faults b n t m e, run-faults b c n t m e) (ap (last-line (fault n c t)) (none-more s))
+text-faults b c s n t m e = rw (trace-faults b n t m e, run-faults b c n t m e) (ap (last-line (fault n c t)) (add-zero s))
 
 text-halts : (b c s : ℕ) (m k : Machine) → step m ≡ halts k →
     text-from (suc b) c s m ≡ step-line (suc c) (traced k (pointer-words m)) ++ last-line (halted (suc c)) (s + pointer-words m)
 unfolding text-from step-lines ran total-of traced
 text-halts b c s m k e =
     rw (trace-halts b m k e, run-halts b c m k e)
-    (ap₂ (λ t n. t ++ last-line (halted (suc c)) (s + n)) (append-nil (step-line (suc c) (traced k (pointer-words m)))) (none-more (pointer-words m)))
+    (ap₂ (λ t n. t ++ last-line (halted (suc c)) (s + n)) (append-nil (step-line (suc c) (traced k (pointer-words m)))) (add-zero (pointer-words m)))
 
 text-completes : (b c s : ℕ) (m k : Machine) → step m ≡ completes k →
     text-from (suc b) c s m ≡ step-line (suc c) (traced k (pointer-words m)) ++ text-from b (suc c) (s + pointer-words m) k
@@ -97,14 +94,14 @@ chunk-run =
     record {
       text = λ c s left.
           ap₂ (λ n e. text-from n e s m) (let q : 0 + left ≡ left = omega arith in q) (let q : c + d ≡ c + (d + 0) = omega arith in q)
-          ∙ ap (λ n. text-from left (c + (d + 0)) n m) (sym (none-more s));
+          ∙ ap (λ n. text-from left (c + (d + 0)) n m) (sym (add-zero s));
       count = omega arith;
       goes = refl;
     })
     (λ b d n t m e.
     record {
       text = λ c s left.
-          ap (λ n. text-from n (c + d) s m) (more b left) ∙ text-faults (b + left) (c + d) s n t m e ∙ ap (last-line (fault n (c + d) t)) (sym (none-more s))
+          ap (λ n. text-from n (c + d) s m) (more b left) ∙ text-faults (b + left) (c + d) s n t m e ∙ ap (last-line (fault n (c + d) t)) (sym (add-zero s))
           ∙ ap (λ ps. step-lines (c + d) ps ++ last-line (fault n (c + d) t) (s + total-of ps)) (sym (trace-faults b n t m e));
       count = omega arith;
       goes = refl;
@@ -114,7 +111,7 @@ chunk-run =
       text = λ c s left.
           ap (λ n. text-from n (c + d) s m) (more b left) ∙ text-halts (b + left) (c + d) s m k e
           ∙ ap₂ (λ l n. l ++ last-line (halted n) (s + pointer-words m)) (sym (append-nil (step-line (suc (c + d)) (traced k (pointer-words m))))) (let q : suc (c + d) ≡ c + suc d = omega arith in q)
-          ∙ ap (λ n. (step-line (suc (c + d)) (traced k (pointer-words m)) ++ []) ++ last-line (halted (c + suc d)) (s + n)) (sym (none-more (pointer-words m)))
+          ∙ ap (λ n. (step-line (suc (c + d)) (traced k (pointer-words m)) ++ []) ++ last-line (halted (c + suc d)) (s + n)) (sym (add-zero (pointer-words m)))
           ∙ ap (λ ps. step-lines (c + d) ps ++ last-line (halted (c + suc d)) (s + total-of ps)) (sym (trace-halts b m k e));
       count = omega arith;
       goes = refl;
@@ -147,7 +144,7 @@ module _ (b : ℕ) (m k : Machine) (y : Reply) (e : run-from b 0 m ≡ ran (as-r
   unfolding ran
   chunk-text c s left =
       ap (λ n. text-from (b + left) n s m) (let q : c ≡ c + 0 = omega arith in q) ∙ chunk-as .text c s left
-      ∙ ap₂ (λ n z. step-lines n (trace-from b m) ++ after-chunk left c z (s + total-of (trace-from b m)) (as-reply y) k) (let q : c + 0 ≡ c = omega arith in q) (let q : 0 + b ≡ b = omega arith in q)
+      ∙ ap₂ (λ n z. step-lines n (trace-from b m) ++ after-chunk left c z (s + total-of (trace-from b m)) (as-reply y) k) (add-zero c) (let q : 0 + b ≡ b = omega arith in q)
 
   by-reply : (x : Reply) → Chunk-run b 0 m (ran (as-reply x) k) → completed x ≤ b
   unfolding ran count-of
@@ -326,11 +323,13 @@ module _ (b : ℕ) (core : Core) (prs memory l₀ : List ℕ) (x : Answered) (pr
           let z : reply-numbers (run b (as-machine core prs memory) .reply) .count ≡ x .count = sym (ap (λ (n : Numbers). n .count) (w .numbers-same)) in
           omega (arith, q, w .pointers-same, z, count-same, g)
 
-      pub chunk-written : Chunk-written (as-machine core prs memory) c b a t (record { ran = record { reply = y; core = x .core; total = x .pointers; last = 0 }; length = z })
+      pub chunk-written : Chunk-written (as-machine core prs memory) c b a t (record { reply = y; core = x .core; total = x .pointers; length = z })
           (as-machine (x .core) prs-now memory-now) u
       chunk-written =
           record {
-            ran-same = record { same = run-same; pointer-within = r .within; passes = w .passes passes };
+            ran-same = run-same;
+            pointer-within = r .within;
+            passes = w .passes passes;
             counted = within-budget;
             put = (
               p .0 ∙ ap (λ q. placed a q t) same-lines,
@@ -378,58 +377,58 @@ module _ (m : Machine) (c s b a : ℕ) (t : List ℕ) (x : Chunk) (k : Machine) 
   pub ending-has-room : x .length + 64 ≤ length u
   ending-has-room = let g = w .put in let q : length u ≡ length t = put-length a (x .length) _ t u (g .0) (g .1) (omega arith) in omega arith
 
-  pub ending-fits : c + b < 2 ^ 32 → c + completed (x .ran .reply) < 2 ^ 32
+  pub ending-fits : c + b < 2 ^ 32 → c + completed (x .reply) < 2 ^ 32
   ending-fits h = let g = w .counted in omega arith
 
-  pub sum-fits : s ≤ 64 * c → c + b < 2 ^ 32 → s + x .ran .total < 2 ^ 64
+  pub sum-fits : s ≤ 64 * c → c + b < 2 ^ 32 → s + x .total < 2 ^ 64
   sum-fits h k = let g = w .total-within in omega arith
 
-  module _ (last : Bool) (f : last ≡ ends-run (x .ran .reply)) (v : List ℕ) (p : v ≡ placed (x .length) (ending c (s + x .ran .total) (x .ran .reply)) u) (r : ℕ)
-      (q : r ≡ x .length + length (ending c (s + x .ran .total) (x .ran .reply))) (h : r ≤ x .length + 64) where
+  module _ (last : Bool) (f : last ≡ ends-run (x .reply)) (v : List ℕ) (p : v ≡ placed (x .length) (ending c (s + x .total) (x .reply)) u) (r : ℕ)
+      (q : r ≡ x .length + length (ending c (s + x .total) (x .reply))) (h : r ≤ x .length + 64) where
     fits : r ≤ length t
     fits = let g = w .put in omega arith
 
     lines : List ℕ
-    lines = step-lines c (trace-from b m) ++ ending c (s + x .ran .total) (x .ran .reply)
+    lines = step-lines c (trace-from b m) ++ ending c (s + x .total) (x .reply)
 
     put-lines : v ≡ placed a lines t
     unfolding lines
-    put-lines = put-after a (x .length) r (step-lines c (trace-from b m)) (ending c (s + x .ran .total) (x .ran .reply)) t u v (w .put .0) (w .put .1) p q fits
+    put-lines = put-after a (x .length) r (step-lines c (trace-from b m)) (ending c (s + x .total) (x .reply)) t u v (w .put .0) (w .put .1) p q fits
 
     long-lines : r ≡ a + length lines
     unfolding lines
-    long-lines = next-after a (x .length) r (step-lines c (trace-from b m)) (ending c (s + x .ran .total) (x .ran .reply)) (w .put .1) q
+    long-lines = next-after a (x .length) r (step-lines c (trace-from b m)) (ending c (s + x .total) (x .reply)) (w .put .1) q
 
-    no-ending : (y : Reply) → ends-run y ≡ false → ending c (s + x .ran .total) y ≡ []
+    no-ending : (y : Reply) → ends-run y ≡ false → ending c (s + x .total) y ≡ []
     no-ending (Refused n) g = absurd (true≢false g)
     no-ending (Spent n) g = refl
     no-ending (Halted n) g = absurd (true≢false g)
     no-ending (Fault n d z) g = absurd (true≢false g)
 
-    sum : s + x .ran .total ≡ s + total-of (trace-from b m)
+    sum : s + x .total ≡ s + total-of (trace-from b m)
     sum = ap (λ n. s + n) (w .total-same)
 
-    pub chunk-listed : Chunk-listed m c s b a t (record { core = x .ran .core; length = r; «is_last» = last; total = s + x .ran .total }) k v
+    pub chunk-listed : Chunk-listed m c s b a t (record { core = x .core; length = r; «is_last» = last; total = s + x .total }) k v
     unfolding lines
     chunk-listed =
         record {
           goes-on = λ g left.
-              ap (λ z. take a t ++ z) (sym (text-goes-on b m _ (x .ran .reply) (w .ran-same .same) c s left _ sum (sym f ∙ g)))
+              ap (λ z. take a t ++ z) (sym (text-goes-on b m _ (x .reply) (w .ran-same) c s left _ sum (sym f ∙ g)))
               ∙ sym (append-assoc (take a t) _ _)
-              ∙ ap (λ z. z ++ text-from left (c + b) (s + x .ran .total) k)
-              (ap (λ z. take a t ++ z) (sym (append-nil (step-lines c (trace-from b m))) ∙ ap (λ z. step-lines c (trace-from b m) ++ z) (sym (no-ending (x .ran .reply) (sym f ∙ g))))
+              ∙ ap (λ z. z ++ text-from left (c + b) (s + x .total) k)
+              (ap (λ z. take a t ++ z) (sym (append-nil (step-lines c (trace-from b m))) ∙ ap (λ z. step-lines c (trace-from b m) ++ z) (sym (no-ending (x .reply) (sym f ∙ g))))
               ∙ sym (put-take a r lines t v put-lines long-lines fits));
           ends = λ g left.
-              ap (λ z. take a t ++ z) (sym (text-ends b m _ (x .ran .reply) (w .ran-same .same) c s left _ sum (sym f ∙ g)))
+              ap (λ z. take a t ++ z) (sym (text-ends b m _ (x .reply) (w .ran-same) c s left _ sum (sym f ∙ g)))
               ∙ sym (put-take a r lines t v put-lines long-lines fits);
           rest-same = put-drop a r lines t v put-lines long-lines fits;
           size-same = put-length a r lines t v put-lines long-lines fits;
           fits = fits;
           grows = omega (arith, long-lines);
           near = let g = w .put in omega arith;
-          short = λ g. let e : length (ending c (s + x .ran .total) (x .ran .reply)) ≡ 0 = ap length (no-ending (x .ran .reply) (sym f ∙ g)) in let y = w .put in omega arith;
+          short = λ g. let e : length (ending c (s + x .total) (x .reply)) ≡ 0 = ap length (no-ending (x .reply) (sym f ∙ g)) in let y = w .put in omega arith;
           total-within = λ h. let g = w .total-within in omega arith;
-          passes = w .ran-same .passes;
+          passes = w .passes;
         }
 
 pub ruleset chunks = (ending-has-room, ending-fits, sum-fits, chunk-listed)

@@ -6,12 +6,12 @@ use Prim.Native.Nat.{ℕ, _+_, _*_, _≤_}
 use lib.ListN.{length, take, drop}
 use Rattle.model.specs.Registers.{Machine}
 use Rattle.model.specs.Questions.{start-questions}
-use Rattle.model.specs.Run.{refused, halted, fault, Traced, run-from, trace-from, total-of}
+use Rattle.model.specs.Run.{ran, refused, halted, fault, Traced, run-from, trace-from, total-of}
 use Rattle.model.specs.Listing.{step-lines, last-line}
 use Rattle.words.specs.View.{as-pointer}
 use Rattle.run.specs.declared.Reply.{Reply}
 use Rattle.run.specs.declared.Reply.the-variants.{Refused, Spent, Halted, Fault}
-use Rattle.run.specs.Run.{completed, Ran-as}
+use Rattle.run.specs.Run.{as-reply, Reply-within, completed}
 use Rattle.chunks.specs.declared.Line.{Line}
 use Rattle.chunks.specs.declared.Chunk.{Chunk}
 use Rattle.text.specs.Text.{Put}
@@ -41,11 +41,13 @@ ending c k (Fault n d t) = last-line (fault n (c + d) (as-pointer t)) k
 
 -- the run of some steps, and the lines of those that it completes after what stands before `at`
 pub record Chunk-written (m : Machine) (count steps at : ℕ) (text : List ℕ) (x : Chunk) (m-now : Machine) (text-now : List ℕ) : Type 0 where
-  pub ran-same : Ran-as (run-from steps 0 m) (x .ran) m-now
-  pub counted : completed (x .ran .reply) ≤ steps
+  pub ran-same : run-from steps 0 m ≡ ran (as-reply (x .reply)) m-now
+  pub pointer-within : Reply-within (x .reply)
+  pub passes : start-questions m-now ≡ 0
+  pub counted : completed (x .reply) ≤ steps
   pub put : Put (64 * steps) at (step-lines count (trace-from steps m)) text text-now (x .length)
-  pub total-same : x .ran .total ≡ total-of (trace-from steps m)
-  pub total-within : x .ran .total ≤ 64 * steps
+  pub total-same : x .total ≡ total-of (trace-from steps m)
+  pub total-within : x .total ≤ 64 * steps
 
 -- the same with the last line, where the run ends with the chunk
 pub record Chunk-listed (m : Machine) (count total steps at : ℕ) (text : List ℕ) (x : Line) (m-now : Machine) (text-now : List ℕ) : Type 0 where

@@ -10,7 +10,6 @@ ghost use Rattle.text.specs.Text.{Put};
 ghost use Rattle.lines.specs.Kept.{Kept};
 ghost use Rattle.chunks.specs.Chunk.{Few, ends-run, ending, Chunk-written, Chunk-listed};
 use lines::Number;
-use run::Ran;
 use run::Reply;
 use state::Core;
 
@@ -22,16 +21,18 @@ pub struct Line {
     pub total: u64,
 }
 
-// A chunk's run, and where its steps' lines end.
-pub struct Chunk {
-    pub ran: Ran,
-    pub length: usize,
+// What a chunk's run answers, its pointer words, and where its steps' lines end.
+struct Chunk {
+    reply: Reply,
+    core: Core,
+    total: u64,
+    length: usize,
 }
 
 // Where a chunk's lines end, with its reply's where that ends the run.
-pub struct Ending {
-    pub length: usize,
-    pub is_last: bool,
+struct Ending {
+    length: usize,
+    is_last: bool,
 }
 
 // The completed steps that a reply counts.
@@ -83,7 +84,7 @@ fn put_chunk(
     at: usize,
 ) -> Chunk
     requires { ⌜ (start-questions (as-machine core (now prs) (now memory)) ≡ 0) × (at + 64 * steps ≤ length (now text)) × (steps ≤ 256) × (count + steps < 2 ^ 32) ⌝ }
-    ensures { λ x. ⌜ Chunk-written (as-machine core (now (prs .entry)) (now (memory .entry))) count steps at (now (text .entry)) x (as-machine (x .ran .core) (now (prs .exit)) (now (memory .exit))) (now (text .exit)) ⌝ }
+    ensures { λ x. ⌜ Chunk-written (as-machine core (now (prs .entry)) (now (memory .entry))) count steps at (now (text .entry)) x (as-machine (x .core) (now (prs .exit)) (now (memory .exit))) (now (text .exit)) ⌝ }
 {
     let mut trace: [u64; 256] = [0; 256];
     let y = machine::run(
@@ -103,12 +104,9 @@ fn put_chunk(
     let after = y.core;
     let length = put_steps(text, at, count, &trace, steps_of(reply));
     Chunk {
-        ran: Ran {
-            reply,
-            core: after,
-            total: y.pointers,
-            last: 0,
-        },
+        reply,
+        core: after,
+        total: y.pointers,
         length,
     }
 }
@@ -153,11 +151,10 @@ pub fn list_chunk(
     ensures { λ x. ⌜ Chunk-listed (as-machine core (now (prs .entry)) (now (memory .entry))) count total steps at (now (text .entry)) x (as-machine (x .core) (now (prs .exit)) (now (memory .exit))) (now (text .exit)) ⌝ }
 {
     let x = put_chunk(core, prs, memory, count, steps, text, at);
-    let ran = x.ran;
-    let reply = ran.reply;
-    let sum = total + ran.total;
+    let reply = x.reply;
+    let sum = total + x.total;
     let end = put_ending(text, x.length, count, sum, reply);
-    let core = ran.core;
+    let core = x.core;
     Line {
         core,
         length: end.length,

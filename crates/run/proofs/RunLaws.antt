@@ -4,7 +4,7 @@ use mathlib.Core.Bool.{true}
 use mathlib.Core.List.{List, [], _∷_, _++_, append-nil, append-assoc}
 use mathlib.Core.Logic.{inl, inr}
 use Prim.Native.Nat.{ℕ, suc, _+_, _-_, _*_, _^_, _≤_, _<_}
-use native.Mathlib.Nat.{zero-add, add-assoc}
+use native.Mathlib.Nat.{zero-add, add-zero, add-assoc}
 use native.Mathlib.Numerals.{add-one}
 use native.Mathlib.Omega.{arith}
 use lib.Dec.{leb}
@@ -95,12 +95,9 @@ total-of-more : (j : Machine) (r : ℕ) (l : List Run.Traced) → total-of (reco
 unfolding total-of
 total-of-more j r l = refl
 
-add-nothing : (n : ℕ) → n + 0 ≡ n
-add-nothing n = omega arith
-
 total-of-one : (j : Machine) (r : ℕ) → total-of (record { ipr = j .registers .ipr; pointers = r } ∷ []) ≡ r
 unfolding total-of
-total-of-one j r = add-nothing r
+total-of-one j r = add-zero r
 
 -- ONE STEP ON THE WAY, of b with c behind
 module _ (b c : ℕ) (m : Machine) (t : List ℕ) where
@@ -140,7 +137,7 @@ module _ (b c : ℕ) (m : Machine) (t : List ℕ) where
                 ∙ ap (λ z. noted-steps (take n u) ++ z) (ap (λ z. trace-from z k) left ∙ trace-faults (b - suc n) i (as-pointer p) k s)
                 ∙ append-nil (noted-steps (take n u));
             total-same =
-                way .total-same ∙ ap (λ z. done + total-of (trace-from z k)) left ∙ ap (λ l. done + total-of l) (trace-faults (b - suc n) i (as-pointer p) k s) ∙ add-nothing done;
+                way .total-same ∙ ap (λ z. done + total-of (trace-from z k)) left ∙ ap (λ l. done + total-of l) (trace-faults (b - suc n) i (as-pointer p) k s) ∙ add-zero done;
             last-same = way .last-same ∙ ap (λ z. fault-count-from z k) left ∙ last-faults (b - suc n) k i (as-pointer p) s ∙ read;
           }
 
@@ -239,7 +236,7 @@ module _ (b c : ℕ) (m : Machine) (t : List ℕ) (n done : ℕ) (k : Machine) (
         trace-size = way .trace-size;
         run-same = way .run-same ∙ ap (λ z. run-from z n k) none;
         trace-same = λ room. way .trace-same room ∙ ap (λ z. noted-steps (take n u) ++ trace-from z k) none ∙ append-nil (noted-steps (take n u));
-        total-same = way .total-same ∙ ap (λ z. done + total-of (trace-from z k)) none ∙ add-nothing done;
+        total-same = way .total-same ∙ ap (λ z. done + total-of (trace-from z k)) none ∙ add-zero done;
         last-same = way .last-same ∙ ap (λ z. fault-count-from z k) none;
       }
 
