@@ -1,11 +1,11 @@
 -- How 01 and 02 are read where they leave a choice (docs/DECISIONS.md), each reading as a fact of the definitions. Assumes nothing: these are definitions.
 use mathlib.Core.List.{List, [], _∷_, _++_}
 use Prim.Native.Nat.{ℕ, _+_}
-use Rattle.model.specs.Registers.{Registers, Machine}
+use Rattle.model.specs.Registers.{Registers, no-delivery, Machine}
 use Rattle.model.specs.Words.{pointer-word}
 use Rattle.model.specs.Opcodes.{Opcode, LDA, STA, AOS, EAP, TRA, TZE, CALL, LDBR, HLT}
 use Rattle.model.specs.Listing.{ascii}
-use Rattle.model.specs.Notation.{pointer, segment, by-ipr, by-pr, indirect-by-pr, indirect-word, bytes, ST-record, WD-records, image-of}
+use Rattle.model.specs.Notation.{pointer, segment, by-ipr, by-pr, indirect-by-pr, indirect-word, bytes, stored-ST, ST-record, WD-records, image-with, image-of}
 use Rattle.model.specs.Cases.{step-faults, ipr-becomes, pr-becomes, word-becomes, step-counts, run-lists, image-prints, image-converts, Holds, about-to-do, about-to, through-pointer, case-12-registers, pointers-up, through-pointers}
 
 -- the instruction and one word in segment 1
@@ -22,14 +22,20 @@ with-descriptors a l =
     record { a = 0; dbr = record { address = a; length = l }; ipr = case-12-registers .ipr; prs = case-12-registers .prs }
 
 unfoldable pub started : List ℕ
-started = ascii "ME" ++ bytes 4 64 ++ ST-record case-12-registers
+started = ascii "ME" ++ bytes 4 64 ++ ST-record case-12-registers no-delivery
 
 unfoldable pub ended : List ℕ
 ended = ascii "RN" ++ bytes 4 0
 
--- WD records before ST and after it
+-- WD records before ST and after it: of a stored image, and of one of today's
+unfoldable pub with-start : (start : List ℕ) → (before after : List (ℕ × ℕ)) → List ℕ
+with-start st xs ys = ascii "ME" ++ bytes 4 64 ++ WD-records xs ++ st ++ WD-records ys ++ ended
+
 unfoldable pub stored-one : (before after : List (ℕ × ℕ)) → List ℕ
-stored-one xs ys = ascii "ME" ++ bytes 4 64 ++ WD-records xs ++ ST-record case-12-registers ++ WD-records ys ++ ended
+stored-one xs ys = with-start (stored-ST case-12-registers) xs ys
+
+unfoldable pub todays-one : (before after : List (ℕ × ℕ)) → List ℕ
+todays-one xs ys = with-start (ST-record case-12-registers no-delivery) xs ys
 
 pub record Readings : Type 0 where
   -- IMAGES are judged record by record: a bad record's number comes before anything that a later record would get
@@ -39,7 +45,7 @@ pub record Readings : Type 0 where
   pub stray-byte-after-RN-is-42 : Holds (image-prints (started ++ ended ++ (87 ∷ [])) "refused 42\n")
   pub earlier-record's-44-comes-before-41 : Holds (image-prints (started ++ WD-records ((64, 0) ∷ []) ++ (87 ∷ [])) "refused 44\n")
   pub second-ME-is-42 : Holds (image-prints (started ++ started) "refused 42\n")
-  pub second-ST-is-42 : Holds (image-prints (started ++ ST-record case-12-registers ++ ended) "refused 42\n")
+  pub second-ST-is-42 : Holds (image-prints (started ++ ST-record case-12-registers no-delivery ++ ended) "refused 42\n")
   pub RN-before-ST-is-42 : Holds (image-prints (ascii "ME" ++ bytes 4 64 ++ ended) "refused 42\n")
   pub WD-before-ME-is-42 : Holds (image-prints (WD-records ((0, 0) ∷ []) ++ started ++ ended) "refused 42\n")
   pub ME-above-8192-is-43 : Holds (image-prints (ascii "ME" ++ bytes 4 8193) "refused 43\n")
@@ -48,11 +54,12 @@ pub record Readings : Type 0 where
   pub equal-WD-is-51 : Holds (image-prints (started ++ WD-records ((4, 1) ∷ (4, 1) ∷ []) ++ ended) "refused 51\n")
   pub second-WD-outside-is-44 : Holds (image-prints (started ++ WD-records ((64, 0) ∷ (64, 0) ∷ []) ++ ended) "refused 44\n")
   pub second-WD-comes-before-4 :
-      Holds (image-prints (ascii "ME" ++ bytes 4 2 ++ ST-record case-12-registers ++ WD-records ((1, 0) ∷ (1, 0) ∷ []) ++ ended) "refused 51\n")
+      Holds (image-prints (ascii "ME" ++ bytes 4 2 ++ ST-record case-12-registers no-delivery ++ WD-records ((1, 0) ∷ (1, 0) ∷ []) ++ ended) "refused 51\n")
   -- STORED IMAGES: the last of each address is kept where it stands, ST too; a refused one gives only its number
-  pub last-WD-is-kept : Holds (image-converts (stored-one ((4, 1) ∷ (5, 2) ∷ []) ((4, 3) ∷ (3, 4) ∷ [])) (stored-one ((5, 2) ∷ []) ((4, 3) ∷ (3, 4) ∷ [])))
+  pub last-WD-is-kept : Holds (image-converts (stored-one ((4, 1) ∷ (5, 2) ∷ []) ((4, 3) ∷ (3, 4) ∷ [])) (todays-one ((5, 2) ∷ []) ((4, 3) ∷ (3, 4) ∷ [])))
   pub stored-44-is-refused : Holds (image-converts (stored-one ((4, 1) ∷ []) ((4, 3) ∷ (64, 4) ∷ [])) (ascii "refused 44\n"))
-  pub stored-4-is-refused : Holds (image-converts (image-of 64 (with-descriptors 65 0) [] 1) (ascii "refused 4\n"))
+  pub stored-4-is-refused : Holds (image-converts (image-with 64 (stored-ST (with-descriptors 65 0)) [] 1) (ascii "refused 4\n"))
+  pub todays-is-not-stored : Holds (image-converts (todays-one [] []) (ascii "refused 41\n"))
   -- WITHIN MEMORY with LENGTH 0 lets ADDRESS equal the memory's length, and no more: 4, and 34
   pub empty-descriptor-segment-at-the-end-passes-4 : Holds (image-prints (image-of 64 (with-descriptors 64 0) [] 1) "fault 11 0 4 4 0 0\n")
   pub empty-descriptor-segment-past-the-end-is-4 : Holds (image-prints (image-of 64 (with-descriptors 65 0) [] 1) "refused 4\n")
