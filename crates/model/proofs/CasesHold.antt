@@ -2,7 +2,7 @@
 use mathlib.Core.Path.{refl}
 use Rattle.model.specs.Run.{single-count}
 use Rattle.model.specs.Cases.{left-by, Holds, about-to-do, about-to, gated, through-pointer, returning, case-12-registers, case-12-words, case-12, pointers-up, through-pointers, case, thirteen, All-hold, Cases-hold}
-use Rattle.model.specs.Readings.{doing, through, with-descriptors, started, ended, stored-one, Readings}
+use Rattle.model.specs.Readings.{doing, through, with-descriptors, started, ended, with-start, stored-one, todays-one, Readings}
 use Rattle.model.proofs.Computing.{by-computation}
 
 pub thirteen-cases-hold : Cases-hold thirteen
@@ -46,7 +46,7 @@ thirteen-cases-hold = (
 )
 
 pub readings-hold : Readings
-unfolding by-computation single-count left-by Holds about-to-do about-to through-pointer case-12-registers pointers-up through-pointers doing through with-descriptors started ended stored-one
+unfolding by-computation single-count left-by Holds about-to-do about-to through-pointer case-12-registers pointers-up through-pointers doing through with-descriptors started ended with-start stored-one todays-one
 readings-hold =
     record {
       empty-file-is-42 = refl;
@@ -66,6 +66,7 @@ readings-hold =
       last-WD-is-kept = refl;
       stored-44-is-refused = refl;
       stored-4-is-refused = refl;
+      todays-is-not-stored = refl;
       empty-descriptor-segment-at-the-end-passes-4 = refl;
       empty-descriptor-segment-past-the-end-is-4 = refl;
       LDBR-of-the-end-passes-34 = refl;

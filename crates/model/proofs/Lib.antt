@@ -11,6 +11,8 @@ pub mod FitLaws
 pub mod KeepsLaws
 pub mod SoundLaws
 pub mod FaultLaws
+pub mod NumberLaws
+pub mod DeliverLaws
 pub mod RunLaws
 pub mod EndsLaws
 pub mod CountLaws

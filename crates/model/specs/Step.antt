@@ -2,7 +2,7 @@
 use mathlib.Core.Bool.{Bool, _||_, not, cond}
 use mathlib.Core.List.{List, [], _∷_, map}
 use mathlib.Core.Option.{Option, none, some}
-use Prim.Native.Nat.{ℕ, zero, suc, _+_, max}
+use Prim.Native.Nat.{ℕ, zero, suc, max}
 use lib.Dec.{eqb}
 use lib.ListN.{length, getD, take, drop}
 use Rattle.model.specs.Words.{Descriptor, Pointer, pointer-in, indirect-in, Instruction, instruction-in}
@@ -71,7 +71,7 @@ load-dbr n r t = read (read-questions t) t (λ d w. if-dbr-fits n (dbr-in w) t (
 unfoldable pub read-words : (count : ℕ) → Pointer → (List ℕ → Program) → Program
 read-words zero t f = f []
 read-words (suc n) t f =
-    read (read-questions t) t (λ d w. read-words n (record { ring = t .ring; segment = t .segment; word = t .word + 1 }) (λ ws. f (w ∷ ws)))
+    read (read-questions t) t (λ d w. read-words n (moved-by 1 t) (λ ws. f (w ∷ ws)))
 
 -- the registers in a frame; its number and the address under question are ignored, and so is every I
 unfoldable pub registers-in : (frame : List ℕ) → Registers
@@ -82,7 +82,7 @@ registers-in ws =
 unfoldable pub take-up : (size : ℕ) → Pointer → Registers → Program
 take-up n t r = if-dbr-fits n (r .dbr) t (cond (rings-at-least (r .ipr .ring) (r .prs)) (finish r) (fail 52 t))
 
--- 15 and 22 of all thirteen words come before any is read, so that each reading of one passes
+-- 15 and 22 of all thirteen words come before any is read, so that each reading of one passes, and none goes round
 unfoldable pub restore : (size : ℕ) → Pointer → Program
 restore n t = look (part-questions 13 t) t (λ d. read-words 13 t (λ ws. take-up n t (registers-in ws)))
 
