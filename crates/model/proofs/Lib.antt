@@ -14,6 +14,7 @@ pub mod FaultLaws
 pub mod NumberLaws
 pub mod DeliverLaws
 pub mod RunLaws
+pub mod DeliveredLaws
 pub mod EndsLaws
 pub mod CountLaws
 pub mod ImageLaws

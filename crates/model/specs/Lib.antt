@@ -9,6 +9,7 @@ pub mod Step
 pub mod Deliver
 pub mod Sound
 pub mod Run
+pub mod Delivered
 pub mod Answers
 pub mod Ends
 pub mod Image
