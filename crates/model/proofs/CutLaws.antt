@@ -1,4 +1,4 @@
--- Bytes cut into records: the one at the front, and those after it. Assumes nothing.
+-- Bytes cut into records, by any rules: the one at the front, and those after it. Assumes nothing.
 use mathlib.Core.Path.{_≡_, refl, sym, _∙_, ap, ap₂, subst}
 use mathlib.Core.Bool.{Bool, true, false, cond}
 use mathlib.Core.List.{List, [], _∷_, _++_, append-assoc, append-nil}
@@ -19,7 +19,6 @@ unfolding joined
 joined-append [] ys = refl
 joined-append (x ∷ xs) ys = ap (λ zs. x ++ zs) (joined-append xs ys) ∙ sym (append-assoc x (joined xs) (joined ys))
 
--- BY ANY RULES
 module _ (v : Rules) where
   size-within : (k : Option Mark) (n : ℕ) → size-by v k n ≤ n
   unfolding size-by
@@ -54,6 +53,10 @@ module _ (v : Rules) where
         by-fuel : (n : ℕ) → records-from v n bs ≡ []
         by-fuel zero = refl
         by-fuel (suc n) = rw e refl
+
+    pub all-left-over : front-size v bs ≡ 0 → left-over v bs ≡ bs
+    unfolding left-over joined
+    all-left-over e = rw (no-record e) refl
 
     pub one-record : 1 ≤ front-size v bs → records v bs ≡ take (front-size v bs) bs ∷ records v (drop (front-size v bs) bs)
     unfolding records records-from
@@ -132,10 +135,11 @@ module _ (v : Rules) where
       }
 
   nothing-cut : (bs : List ℕ) → front-size v bs ≡ 0 → Cut bs
-  unfolding left-over joined
+  unfolding joined
   nothing-cut bs e =
       let none : records v bs ≡ [] = no-record bs e in
-      record { all-whole = subst All-whole (sym none) tt; same = rw none refl; none-after = rw none e }
+      let over : left-over v bs ≡ bs = all-left-over bs e in
+      record { all-whole = subst All-whole (sym none) tt; same = rw none over; none-after = ap (front-size v) over ∙ e }
 
   one-cut : (bs : List ℕ) → 1 ≤ front-size v bs → Cut (drop (front-size v bs) bs) → Cut bs
   unfolding joined
