@@ -3,12 +3,12 @@ use mathlib.Core.Path.{_≡_, refl, sym, _∙_, ap, ap₂, subst}
 use mathlib.Core.Bool.{Bool, true, false, cond}
 use mathlib.Core.List.{List, [], _∷_, _++_, append-assoc, append-nil}
 use mathlib.Core.Option.{Option, none, some}
-use Prim.Native.Nat.{ℕ, zero, suc, _+_, _-_, _≤_}
+use Prim.Native.Nat.{ℕ, zero, suc, _+_, _-_, _≤_, _<_}
 use native.Mathlib.Omega.{arith}
 use lib.Dec.{leb, eqb}
 use lib.ListN.{length, take, drop, length-append, length-drop, take-append-drop}
 use lib.Seq.{length-take-le, drop-append-add, drop-at, take-at}
-use borrow.Author.Tests.{leb-true, le-leb, eqb-false, eq-eqb, ne-eqb}
+use borrow.Author.Tests.{leb-true, leb-false, le-leb, eqb-false, eq-eqb, ne-eqb}
 use Rattle.model.specs.Image.{Rules, Mark, mark-of, record-size}
 use Rattle.model.specs.Convert.{size-by, front-size, records-from, records, joined, left-over}
 use Rattle.model.proofs.BranchLaws.{cond-rel, cond-holds}
@@ -28,6 +28,12 @@ module _ (v : Rules) where
   pub front-within : (bs : List ℕ) → front-size v bs ≤ length bs
   unfolding front-size
   front-within bs = size-within (mark-of bs) (length bs)
+
+  pub too-short : (k : Mark) (n : ℕ) → size-by v (some k) n ≡ 0 → n < record-size v k
+  unfolding size-by
+  too-short k n =
+      cond-holds (λ s. s ≡ 0 → n < record-size v k) (leb (record-size v k) n) (λ _ z. absurd (let y = record-has-a-mark v k in omega arith))
+      (λ f _. leb-false (record-size v k) n f)
 
   -- THE RECORDS LEFT suffice: what follows a record is shorter
   records-from-enough : (n p : ℕ) (bs : List ℕ) → length bs ≤ n → length bs ≤ p → records-from v n bs ≡ records-from v p bs

@@ -1,13 +1,13 @@
 -- An image by the record in front of it, and what its acceptance says. Assumes nothing.
 use mathlib.Core.Path.{_≡_, refl, sym, _∙_, ap, subst}
-use mathlib.Core.Bool.{Bool, true, false, _&&_, cond}
+use mathlib.Core.Bool.{true, _&&_}
 use mathlib.Core.List.{List, [], _∷_, _++_, append-assoc}
 use mathlib.Core.Option.{Option, none, some}
 use Prim.Native.Nat.{ℕ, zero, suc, _+_}
 use native.Mathlib.Omega.{arith}
-use lib.Dec.{leb, eqb}
+use lib.Dec.{eqb}
 use lib.ListN.{length, length-append}
-use borrow.Author.Tests.{eqb-true}
+use borrow.Author.Tests.{lt-leb, eqb-true}
 use Rattle.model.specs.Registers.{Delivery, Machine}
 use Rattle.model.specs.Run.{unless-refused}
 use Rattle.model.specs.Image.{Rules, Mark, ME, ST, WD, RN, mark-of, record-size, Loading, has, in-order, memory-allowed, address-allowed, address-new, record-questions, with-word, with-record, Image, refused-image, loaded, record-on, whole-record-on, marked-on, bytes-on, image-after}
@@ -15,7 +15,7 @@ use Rattle.model.specs.Convert.{size-by, front-size, joined}
 use Rattle.model.proofs.BranchLaws.{and-right}
 use Rattle.model.proofs.QuestionLaws.{ask-yes}
 use Rattle.model.proofs.ImageLaws.{record-has-a-mark, image-record-by-record, image-is-records}
-use Rattle.model.proofs.CutLaws.{Whole, All-whole}
+use Rattle.model.proofs.CutLaws.{too-short, Whole, All-whole}
 
 -- A RECORD IN FRONT of others
 module _ {v : Rules} (l : Loading) (r : l .rules ≡ v) (x : List ℕ) (xs : List (List ℕ)) (t : List ℕ) (w : Whole v x) where
@@ -29,11 +29,7 @@ module _ {v : Rules} (l : Loading) (r : l .rules ≡ v) (x : List ℕ) (xs : Lis
 part-is-41 : (k : Option Mark) (l : Loading) (bs : List ℕ) (f : Loading → List ℕ → Image) → size-by (l .rules) k (length bs) ≡ 0 → marked-on k l bs f ≡ refused-image 41
 unfolding marked-on size-by
 part-is-41 none l bs f e = refl
-part-is-41 (some k) l bs f e = rw (short (leb (record-size (l .rules) k) (length bs)) e) refl
-  where
-    short : (b : Bool) → cond b (record-size (l .rules) k) 0 ≡ 0 → b ≡ false
-    short true z = absurd (let y = record-has-a-mark (l .rules) k in omega arith)
-    short false z = refl
+part-is-41 (some k) l bs f e = rw (lt-leb (record-size (l .rules) k) (length bs) (too-short (l .rules) k (length bs) e)) refl
 
 unfoldable pub part-number : List ℕ → ℕ
 part-number [] = 42

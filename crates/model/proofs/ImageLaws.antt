@@ -103,7 +103,7 @@ module _ (one rest : List ℕ) where
   pointers-at-front (suc n) a h =
       ap₂ (λ p ps. p ∷ ps) (pointer-at-front a (omega arith)) (pointers-at-front n (a + 5) (omega arith))
 
-  registers-at-front : 61 ≤ length one → registers-at (one ++ rest) ≡ registers-at one
+  pub registers-at-front : 61 ≤ length one → registers-at (one ++ rest) ≡ registers-at one
   unfolding registers-at
   registers-at-front h =
       rw (number-at-front 2 8 (omega arith), number-at-front 10 4 (omega arith), number-at-front 14 2 (omega arith), pointer-at-front 16 (omega arith), pointers-at-front 8 21 (omega arith))
