@@ -60,7 +60,7 @@ module _ (v : Rules) where
         by-fuel zero = refl
         by-fuel (suc n) = rw e refl
 
-    pub all-left-over : front-size v bs ≡ 0 → left-over v bs ≡ bs
+    all-left-over : front-size v bs ≡ 0 → left-over v bs ≡ bs
     unfolding left-over joined
     all-left-over e = rw (no-record e) refl
 
@@ -111,6 +111,14 @@ module _ (v : Rules) where
       ap (λ zs. drop (length (joined zs)) (joined xs ++ ys)) (joined-front xs ys w)
       ∙ ap (λ n. drop n (joined xs ++ ys)) (ap length (joined-append xs (records v ys)) ∙ length-append (joined xs) (joined (records v ys)))
       ∙ drop-append-add (joined xs) ys (length (joined (records v ys)))
+
+  -- whole records and a part are cut as they were joined
+  module _ (xs : List (List ℕ)) (t : List ℕ) (w : All-whole xs) (z : front-size v t ≡ 0) where
+    pub joined-records : records v (joined xs ++ t) ≡ xs
+    joined-records = joined-front xs t w ∙ ap (λ ys. xs ++ ys) (no-record t z) ∙ append-nil xs
+
+    pub joined-left-over : left-over v (joined xs ++ t) ≡ t
+    joined-left-over = left-over-after xs t w ∙ all-left-over t z
 
   -- ANY BYTES are their records and what is left over
   pub record Cut (bs : List ℕ) : Type 0 where

@@ -1,18 +1,18 @@
 -- An image by the record in front of it, and what its acceptance says. Assumes nothing.
 use mathlib.Core.Path.{_≡_, refl, sym, _∙_, ap, subst}
-use mathlib.Core.Bool.{true, _&&_}
+use mathlib.Core.Bool.{Bool, true, false, _&&_, not, cond}
 use mathlib.Core.List.{List, [], _∷_, _++_, append-assoc}
 use mathlib.Core.Option.{Option, none, some}
 use Prim.Native.Nat.{ℕ, zero, suc, _+_}
 use native.Mathlib.Omega.{arith}
 use lib.Dec.{eqb}
 use lib.ListN.{length, length-append}
-use borrow.Author.Tests.{lt-leb, eqb-true}
+use borrow.Author.Tests.{not-true, lt-leb, eqb-true}
 use Rattle.model.specs.Registers.{Delivery, Machine}
 use Rattle.model.specs.Run.{unless-refused}
 use Rattle.model.specs.Image.{Rules, Mark, ME, ST, WD, RN, mark-of, record-size, Loading, has, in-order, memory-allowed, address-allowed, address-new, record-questions, with-word, with-record, Image, refused-image, loaded, record-on, whole-record-on, marked-on, bytes-on, image-after}
 use Rattle.model.specs.Convert.{size-by, front-size, joined}
-use Rattle.model.proofs.BranchLaws.{and-right}
+use Rattle.model.proofs.BranchLaws.{and-left, and-right}
 use Rattle.model.proofs.QuestionLaws.{ask-yes}
 use Rattle.model.proofs.ImageLaws.{record-has-a-mark, image-record-by-record, image-is-records}
 use Rattle.model.proofs.CutLaws.{too-short, Whole, All-whole}
@@ -127,3 +127,45 @@ accepted-whole l [] t d m b r w z e = absurd (accepted (sym (part-refused l t (r
 accepted-whole l (x ∷ xs) t d m b r w z e =
     let p = passed l r x xs t d m b (w .0) e in
     last-record (w .0 .mark) l x xs t d m b (p .0) (p .1) (λ j s f. accepted-whole j xs t d m b (s ∙ r) (w .1) z f)
+
+-- AN ACCEPTED IMAGE HAS ONE ST
+unfoldable pub is-start : Option Mark → Bool
+is-start none = false
+is-start (some ME) = false
+is-start (some ST) = true
+is-start (some WD) = false
+is-start (some RN) = false
+
+unfoldable pub starts : List (List ℕ) → ℕ
+starts [] = 0
+starts (x ∷ xs) = cond (is-start (mark-of x)) (suc (starts xs)) (starts xs)
+
+-- one that has yet to come, unless it has
+abbrev starts-due : Loading → ℕ
+starts-due l = cond (has (l .registers)) 0 1
+
+module _ {v : Rules} (l : Loading) (r : l .rules ≡ v) (x : List ℕ) (xs : List (List ℕ)) (t : List ℕ) (d : Delivery) (m : Machine) (b : ℕ) (all : All-whole v xs)
+    (more : (j : Loading) → j .rules ≡ v → image-after j (joined xs ++ t) ≡ loaded d m b → starts xs ≡ starts-due j) where
+  one-more-start : (k : Mark) → mark-of x ≡ some k → record-questions k l (length (joined xs ++ t)) x ≡ 0 →
+      record-on k l x (λ j. image-after j (joined xs ++ t)) ≡ loaded d m b → starts (x ∷ xs) ≡ starts-due l
+  unfolding record-on with-record with-word in-order starts is-start has
+  one-more-start ME q z e = rw q (more (with-record ME l x) r e)
+  one-more-start ST q z e =
+      rw (q, not-true (has (l .registers)) (and-right (has (l .memory)) (not (has (l .registers))) (ordered ST l _ x z))) (ap suc (more (with-record ST l x) r e))
+  one-more-start WD q z e = rw q (more (with-record WD l x) r e)
+  one-more-start RN q z e =
+      let o = ordered RN l _ x z in
+      let g = and-right (has (l .memory)) (has (l .registers) && eqb (length (joined xs ++ t)) 0) o in
+      rw (q, and-left (has (l .registers)) (eqb (length (joined xs ++ t)) 0) g) (none-follow xs all (last-has-none l _ o))
+    where
+      none-follow : (ys : List (List ℕ)) → All-whole v ys → length (joined ys ++ t) ≡ 0 → starts ys ≡ 0
+      none-follow [] w e = refl
+      none-follow (y ∷ ys) w e = absurd (records-have-bytes y ys t (w .0) e)
+
+pub accepted-starts : {v : Rules} (l : Loading) (xs : List (List ℕ)) (t : List ℕ) (d : Delivery) (m : Machine) (b : ℕ) → l .rules ≡ v → All-whole v xs → front-size v t ≡ 0 →
+    image-after l (joined xs ++ t) ≡ loaded d m b → starts xs ≡ starts-due l
+unfolding joined
+accepted-starts l [] t d m b r w z e = absurd (accepted (sym (part-refused l t (rw r z)) ∙ e))
+accepted-starts l (x ∷ xs) t d m b r w z e =
+    let p = passed l r x xs t d m b (w .0) e in
+    one-more-start l r x xs t d m b (w .1) (λ j s f. accepted-starts j xs t d m b s (w .1) z f) (w .0 .mark) (w .0 .is-marked) (p .0) (p .1)

@@ -10,7 +10,7 @@ use Rattle.model.specs.Image.{Rules, stored, Mark, WD, mark-of, number-a
 use Rattle.model.specs.Convert.{records, joined, left-over, is-word, writes, some-writes, superseded, last-of-each, kept-of, renewed, compacted}
 use Rattle.model.specs.Converted.{Sublist, none-left, kept, dropped, One-an-address, with-todays-start}
 use Rattle.model.proofs.BranchLaws.{cond-holds, and-left, and-right, or-left}
-use Rattle.model.proofs.CutLaws.{All-whole, cut, no-record, all-left-over, joined-front, left-over-after}
+use Rattle.model.proofs.CutLaws.{All-whole, joined-front, left-over-after, joined-records, joined-left-over, cut}
 
 or-known : (a b : Bool) → (a ≡ true → b ≡ true) → (a || b) ≡ b
 or-known true b f = sym (f refl)
@@ -110,16 +110,11 @@ module _ (bs : List ℕ) where
 
   pub kept-records : records stored (kept-of bs) ≡ last-of-each (records stored bs)
   unfolding kept-of
-  kept-records =
-      joined-front stored (last-of-each (records stored bs)) (left-over stored bs) kept-whole
-      ∙ ap (λ ys. last-of-each (records stored bs) ++ ys) (no-record stored (left-over stored bs) (cut stored bs .none-after))
-      ∙ append-nil (last-of-each (records stored bs))
+  kept-records = joined-records stored (last-of-each (records stored bs)) (left-over stored bs) kept-whole (cut stored bs .none-after)
 
   pub kept-left-over : left-over stored (kept-of bs) ≡ left-over stored bs
   unfolding kept-of
-  kept-left-over =
-      left-over-after stored (last-of-each (records stored bs)) (left-over stored bs) kept-whole
-      ∙ all-left-over stored (left-over stored bs) (cut stored bs .none-after)
+  kept-left-over = joined-left-over stored (last-of-each (records stored bs)) (left-over stored bs) kept-whole (cut stored bs .none-after)
 
   -- the five bytes may be added to the ST that was kept
   pub compacted-in-two : compacted bs ≡ with-todays-start (kept-of bs)
