@@ -5,11 +5,11 @@ use mathlib.Core.List.{List, [], _∷_, _++_, map, append-nil, append-assoc}
 use mathlib.Core.Option.{Option, none, some}
 use Prim.Native.Nat.{ℕ, suc, _+_}
 use native.Mathlib.Omega.{arith}
-use lib.ListN.{length, take, drop, replicate}
+use lib.ListN.{length, take, drop, replicate, length-append, take-append-drop}
 use lib.Seq.{take-append-add, drop-append-add}
 use Rattle.model.specs.Registers.{Delivery, Machine}
 use Rattle.model.specs.Image.{stored, today, ME, ST, WD, RN, Mark, mark-of, nothing-loaded, has, memory-of, or-else, loaded, image-after, image, stored-image}
-use Rattle.model.specs.Convert.{records, joined, left-over, some-writes, last-of-each, kept-of, added, renewed, compacted, convert-on, convert-after, convert}
+use Rattle.model.specs.Convert.{front-size, records, joined, left-over, some-writes, last-of-each, kept-of, added, renewed, compacted, convert-on, convert-after, convert}
 use Rattle.model.specs.Converted.{Sublist, none-left, kept, dropped, One-an-address, with-todays-start, Rules-agree, Today-as-stored, Converted-loads, Refused-converts, Converted-records, Converted-is-sublist}
 use Rattle.model.proofs.CutLaws.{All-whole, joined-records, joined-left-over, cut}
 use Rattle.model.proofs.LastLaws.{none-lost, last-of-each-sublist, last-of-each-once, last-of-each-whole, kept-records, kept-left-over, compacted-in-two}
@@ -33,15 +33,16 @@ module _ (bs : List ℕ) where
       (cut stored bs .none-after) h (λ a e. absurd (false≢true e))
       ∙ by-records
 
+  no-more-today : front-size today (left-over stored bs) ≡ 0
+  no-more-today = no-record-today (left-over stored bs) (cut stored bs .none-after)
+
   records-today : records today (with-todays-start bs) ≡ map renewed (records stored bs)
   unfolding with-todays-start
-  records-today =
-      joined-records today (map renewed (records stored bs)) (left-over stored bs) whole-today (no-record-today (left-over stored bs) (cut stored bs .none-after))
+  records-today = joined-records today (map renewed (records stored bs)) (left-over stored bs) whole-today no-more-today
 
   left-over-today : left-over today (with-todays-start bs) ≡ left-over stored bs
   unfolding with-todays-start
-  left-over-today =
-      joined-left-over today (map renewed (records stored bs)) (left-over stored bs) whole-today (no-record-today (left-over stored bs) (cut stored bs .none-after))
+  left-over-today = joined-left-over today (map renewed (records stored bs)) (left-over stored bs) whole-today no-more-today
 
 pub rules-agree : Rules-agree
 rules-agree bs h = agree-where-once bs (once-renewed (records stored bs) (cut stored bs .all-whole) h)
@@ -57,13 +58,21 @@ unfoldable pub start-end : (records : List (List ℕ)) → ℕ
 start-end [] = 0
 start-end (x ∷ xs) = length x + cond (is-start (mark-of x)) 0 (start-end xs)
 
-unfoldable pub with-five-at : (at : ℕ) → List ℕ → List ℕ
-with-five-at p bs = take p bs ++ (replicate 5 0 ++ drop p bs)
+unfoldable pub with-zeros-at : (at : ℕ) → List ℕ → List ℕ
+with-zeros-at p bs = take p bs ++ (replicate 5 0 ++ drop p bs)
 
-five-after : (x bs : List ℕ) (p : ℕ) → with-five-at (length x + p) (x ++ bs) ≡ x ++ with-five-at p bs
-unfolding with-five-at
-five-after x bs p =
+zeros-after : (x bs : List ℕ) (p : ℕ) → with-zeros-at (length x + p) (x ++ bs) ≡ x ++ with-zeros-at p bs
+unfolding with-zeros-at
+zeros-after x bs p =
     ap₂ (λ ys zs. ys ++ (replicate 5 0 ++ zs)) (take-append-add x bs p) (drop-append-add x bs p) ∙ append-assoc x (take p bs) (replicate 5 0 ++ drop p bs)
+
+pub zeros-length : (p : ℕ) (bs : List ℕ) → length (with-zeros-at p bs) ≡ length bs + 5
+unfolding with-zeros-at
+zeros-length p bs =
+    let new = length-append (take p bs) (replicate 5 0 ++ drop p bs) in
+    let old = length-append (take p bs) (drop p bs) in
+    let same = ap length (take-append-drop p bs) in
+    omega arith
 
 added-to-start : (k : Option Mark) → added k ≡ cond (is-start k) (replicate 5 0) []
 unfolding added is-start
@@ -83,16 +92,16 @@ no-start-renewed (x ∷ xs) h = rw (added-to-start (mark-of x)) (by-test (is-sta
     by-test true h more = absurd (omega arith)
     by-test false h more = ap₂ (λ ys zs. ys ++ zs) (append-nil x) (more h)
 
-one-start-renewed : (xs : List (List ℕ)) → starts xs ≡ 1 → joined (map renewed xs) ≡ with-five-at (start-end xs) (joined xs)
-unfolding joined starts start-end with-five-at renewed
+one-start-renewed : (xs : List (List ℕ)) → starts xs ≡ 1 → joined (map renewed xs) ≡ with-zeros-at (start-end xs) (joined xs)
+unfolding joined starts start-end with-zeros-at renewed
 one-start-renewed [] h = absurd (omega arith)
 one-start-renewed (x ∷ xs) h =
     append-assoc x (added (mark-of x)) (joined (map renewed xs))
     ∙ ap (λ ys. x ++ ys) (rw (added-to-start (mark-of x)) (by-test (is-start (mark-of x)) h (λ g. one-start-renewed xs g)))
-    ∙ sym (five-after x (joined xs) _)
+    ∙ sym (zeros-after x (joined xs) _)
   where
-    by-test : (b : Bool) → cond b (suc (starts xs)) (starts xs) ≡ 1 → (starts xs ≡ 1 → joined (map renewed xs) ≡ with-five-at (start-end xs) (joined xs)) →
-        cond b (replicate 5 0) [] ++ joined (map renewed xs) ≡ with-five-at (cond b 0 (start-end xs)) (joined xs)
+    by-test : (b : Bool) → cond b (suc (starts xs)) (starts xs) ≡ 1 → (starts xs ≡ 1 → joined (map renewed xs) ≡ with-zeros-at (start-end xs) (joined xs)) →
+        cond b (replicate 5 0) [] ++ joined (map renewed xs) ≡ with-zeros-at (cond b 0 (start-end xs)) (joined xs)
     by-test true h more = ap (λ ys. replicate 5 0 ++ ys) (no-start-renewed xs (omega arith))
     by-test false h more = more h
 
@@ -102,7 +111,7 @@ module _ (bs : List ℕ) (v : Delivery) (m : Machine) (b : ℕ) (e : stored-imag
   unfolding convert convert-after convert-on stored-image
   converted = rw e (compacted-in-two bs)
 
-  pub still-stored : stored-image (kept-of bs) ≡ loaded v m b
+  still-stored : stored-image (kept-of bs) ≡ loaded v m b
   unfolding stored-image kept-of
   still-stored = last-of-each-loads (nothing-loaded stored) (records stored bs) (left-over stored bs) v m b refl (cut stored bs .all-whole) (by-records bs ∙ e)
 
@@ -118,11 +127,11 @@ module _ (bs : List ℕ) (v : Delivery) (m : Machine) (b : ℕ) (e : stored-imag
   one-start =
       accepted-starts (nothing-loaded stored) (records stored bs) (left-over stored bs) v m b refl (cut stored bs .all-whole) (cut stored bs .none-after) (by-records bs ∙ e)
 
-  todays-start : with-todays-start bs ≡ with-five-at (start-end (records stored bs)) bs
+  todays-start : with-todays-start bs ≡ with-zeros-at (start-end (records stored bs)) bs
   unfolding with-todays-start
   todays-start =
       ap (λ ys. joined (map renewed (records stored bs)) ++ ys) none-left-over ∙ append-nil (joined (map renewed (records stored bs)))
-      ∙ one-start-renewed (records stored bs) one-start ∙ ap (with-five-at (start-end (records stored bs))) its-bytes
+      ∙ one-start-renewed (records stored bs) one-start ∙ ap (with-zeros-at (start-end (records stored bs))) its-bytes
 
   its-records : Converted-records bs
   its-records =
@@ -146,9 +155,9 @@ module _ (bs : List ℕ) (v : Delivery) (m : Machine) (b : ℕ) (e : stored-imag
       sublist-map (dropped x s) = dropped (renewed x) (sublist-map s)
 
 -- where they stand in what was kept
-pub compacted-has-five : (bs : List ℕ) (v : Delivery) (m : Machine) (b : ℕ) → stored-image bs ≡ loaded v m b →
-    compacted bs ≡ with-five-at (start-end (records stored (kept-of bs))) (kept-of bs)
-compacted-has-five bs v m b e = compacted-in-two bs ∙ todays-start (kept-of bs) v m b (still-stored bs v m b e)
+pub compacted-with-zeros : (bs : List ℕ) (v : Delivery) (m : Machine) (b : ℕ) → stored-image bs ≡ loaded v m b →
+    compacted bs ≡ with-zeros-at (start-end (records stored (kept-of bs))) (kept-of bs)
+compacted-with-zeros bs v m b e = compacted-in-two bs ∙ todays-start (kept-of bs) v m b (still-stored bs v m b e)
 
 pub converted-loads : Converted-loads
 converted-loads bs v m b e =

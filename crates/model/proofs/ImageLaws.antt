@@ -17,7 +17,7 @@ use Rattle.model.specs.Records.{Image-is-records, Image-needs-rn}
 use Rattle.model.proofs.BranchLaws.{cond-rel}
 
 -- A RECORD'S SIZE by any rules: a mark and a number at least, and an ST's registers
-pub start-has-registers : (v : Rules) → 61 ≤ start-size v
+start-has-registers : (v : Rules) → 61 ≤ start-size v
 unfolding start-size
 start-has-registers stored = omega arith
 start-has-registers today = omega arith
@@ -33,7 +33,6 @@ pub record-has-a-mark : (v : Rules) (k : Mark) → 2 ≤ record-size v k
 record-has-a-mark v k = let h = record-has-a-number v k in omega arith
 
 -- THE RECORDS LEFT suffice: what follows a record is shorter
-
 record-on-same : (k : Mark) (l : Loading) (bs : List ℕ) (f g : Loading → Image) → ((j : Loading) → f j ≡ g j) → record-on k l bs f ≡ record-on k l bs g
 unfolding record-on
 record-on-same ME l bs f g h = h _

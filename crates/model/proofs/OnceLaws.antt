@@ -11,9 +11,9 @@ use lib.Seq.{drop-append-add}
 use borrow.Author.Tests.{not-true, eqb-true, ltb-true, leb-true, lt-leb, eq-eqb, ne-eqb}
 use Rattle.model.specs.Registers.{Delivery, no-delivery, Machine}
 use Rattle.model.specs.Questions.{ask}
-use Rattle.model.specs.Image.{Rules, stored, today, Mark, ME, ST, WD, RN, mark-of, start-size, record-size, number-at, big-endian, registers-at, delivery-at, Loading, has, memory-of, or-else, machine-of, in-order, memory-allowed, address-allowed, unless-written, address-new, record-questions, with-written, with-word, with-record, Image, loaded, record-on, image-after}
-use Rattle.model.specs.Convert.{size-by, front-size, records, joined, left-over, is-word, writes, some-writes, superseded, added, renewed}
-use Rattle.model.specs.Converted.{One-an-address, with-todays-start}
+use Rattle.model.specs.Image.{stored, today, Mark, ME, ST, WD, RN, mark-of, start-size, record-size, number-at, big-endian, delivery-at, Loading, has, memory-of, or-else, machine-of, in-order, memory-allowed, address-allowed, unless-written, address-new, record-questions, with-written, with-word, with-record, Image, loaded, record-on, image-after}
+use Rattle.model.specs.Convert.{size-by, front-size, joined, is-word, writes, some-writes, superseded, added, renewed}
+use Rattle.model.specs.Converted.{One-an-address}
 use Rattle.model.proofs.BranchLaws.{or-left, or-right, or-none}
 use Rattle.model.proofs.ImageLaws.{record-has-a-number, mark-of-front, number-at-front, registers-at-front, questions-front}
 use Rattle.model.proofs.CutLaws.{too-short, Whole, All-whole}
@@ -32,7 +32,7 @@ module _ (x : List ℕ) (w : Whole stored x) where
   six-or-more : 6 ≤ length x
   six-or-more = let h = record-has-a-number stored (w .mark) in let s = w .sized in omega arith
 
-  pub mark-renewed : mark-of (renewed x) ≡ mark-of x
+  mark-renewed : mark-of (renewed x) ≡ mark-of x
   unfolding renewed
   mark-renewed = mark-of-front x (added (mark-of x)) (let h = six-or-more in omega arith)
 
@@ -44,7 +44,7 @@ module _ (x : List ℕ) (w : Whole stored x) where
   unfolding writes
   writes-renewed a = rw (mark-renewed, address-renewed) refl
 
-  pub whole-renewed : Whole today (renewed x)
+  whole-renewed : Whole today (renewed x)
   unfolding renewed
   whole-renewed =
       record {
@@ -170,6 +170,7 @@ loads-renewed ST l x v q e = rw (q, v, registers-at-front x (replicate 5 0) (ome
 loads-renewed WD l x v q e = rw (number-at-front x (added (mark-of x)) 2 4 (omega arith), number-at-front x (added (mark-of x)) 6 8 (omega arith)) refl
 loads-renewed RN l x v q e = refl
 
+-- none follow the renewed where none followed
 none-alike : (xs : List (List ℕ)) (t : List ℕ) → All-whole stored xs → eqb (length (joined (map renewed xs) ++ t)) 0 ≡ eqb (length (joined xs ++ t)) 0
 none-alike [] t w = refl
 none-alike (x ∷ xs) t w =
