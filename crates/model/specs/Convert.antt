@@ -58,6 +58,10 @@ unfoldable pub last-of-each : List (List ℕ) → List (List ℕ)
 last-of-each [] = []
 last-of-each (x ∷ xs) = cond (superseded x xs) (last-of-each xs) (x ∷ last-of-each xs)
 
+-- a stored image with those alone of its WD records: every other record stays as it is, where it stands
+unfoldable pub kept-of : List ℕ → List ℕ
+kept-of bs = joined (last-of-each (records stored bs)) ++ left-over stored bs
+
 -- ST GAINS FIVE ZERO BYTES: the switch is off
 unfoldable pub added : Option Mark → List ℕ
 added none = []
@@ -69,7 +73,7 @@ added (some RN) = []
 unfoldable pub renewed : (one : List ℕ) → List ℕ
 renewed x = x ++ added (mark-of x)
 
--- every other record stays as it is, where it stands
+-- the image with both changes
 unfoldable pub compacted : List ℕ → List ℕ
 compacted bs = joined (map renewed (last-of-each (records stored bs))) ++ left-over stored bs
 
