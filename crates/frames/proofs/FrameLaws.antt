@@ -16,6 +16,7 @@ use Rattle.model.specs.Deliver.{frame, with-words, saved}
 use Rattle.model.proofs.ListLaws.{all-get}
 use Rattle.model.proofs.WordLaws.{in-range-within}
 use Rattle.words.specs.View.{as-pointer, Pointer-within}
+use Rattle.words.specs.declared.descriptor.Descriptor.{Descriptor}
 use Rattle.words.specs.declared.pointer.Pointer.{Pointer}
 use Rattle.segments.specs.Translation.{descriptor-word}
 use Rattle.state.specs.View.{pointers-in, as-pointers, pr-of, as-registers, as-machine}
@@ -118,14 +119,20 @@ module _ (v : Delivery) (c : Core) (prs m : List ℕ) (n : ℕ) (t : Words.Point
       let h = rw e at s in
       record { same = sym (h (as-pointers prs)); written = λ q. absurd (true≢false (sym q)); kept = λ _. refl }
 
-  pub is-delivered : (d : ℕ) (start : ℕ) (u : List ℕ) → Saves-in v c m d → start ≡ Words.descriptor-in d .address → u ≡ with-words start (frame n t (as-registers c prs)) m →
+  pub is-delivered : (d : Descriptor) (start : ℕ) (u : List ℕ) → y ≡ In d → start ≡ Words.descriptor-in (d .0) .address → u ≡ with-words start (frame n t (as-registers c prs)) m →
       Delivers v n t (as-machine c prs m) true u
   unfolding saved machine descriptor-of descriptor-word
-  is-delivered d start u h e f =
+  is-delivered d start u g e f =
+      let h = rw g at s in
       record {
         same = sym (h .delivers-here (as-pointers prs));
         written = λ _. f ∙ ap (λ a. with-words a (frame n t (as-registers c prs)) m) (e ∙ ap (λ w. Words.descriptor-in w .address) (h .same));
         kept = λ q. absurd (true≢false q);
       }
 
-pub ruleset deliveries = (not-delivered, is-delivered)
+-- the save segment has room for the frame
+pub room-for-frame : (v : Delivery) (c : Core) (m : List ℕ) (y : Saves) (d : Descriptor) (start : ℕ) → saves v c m y → y ≡ In d → start ≡ Words.descriptor-in (d .0) .address →
+    start + 13 ≤ length m
+room-for-frame v c m y d start s g e = let h = (rw g at s) .fits in omega (arith, h, e)
+
+pub ruleset deliveries = (not-delivered, is-delivered, room-for-frame)

@@ -61,7 +61,7 @@ module _ (v : Delivery) (c : Core) (m : List ℕ) where
     pub unfit : (n : ℕ) → y ≡ Refused n → (ps : List Pointer) → delivers v (machine-with c ps m) ≡ false
     unfit n f ps =
         let h = rw f at s in
-        by-parts v c m ps ∙ and-false (eqb (v .switch) 1) _ (not-both (segment-questions (length m) (as-dbr (c .dbr)) (v .save) _) _ n _ (sym asked ∙ h .0) (h .1))
+        by-parts v c m ps ∙ and-false (eqb (v .switch) 1) _ (not-both (segment-questions (length m) (as-dbr (c .dbr)) (v .save) _) (descriptor-in (descriptor-word (as-dbr (c .dbr)) m (v .save)) .length) n (descriptor-in (descriptor-word (as-dbr (c .dbr)) m (v .save)) .write) (sym asked ∙ h .0) (h .1))
 
     module _ (d : Descriptor) (f : y ≡ Passed d) (b : Bool) (eb : b ≡ descriptor-in (d .0) .write) where
       passed : Passes (as-dbr (c .dbr)) m t (d .0)
@@ -75,7 +75,7 @@ module _ (v : Delivery) (c : Core) (m : List ℕ) where
           by-parts v c m ps
           ∙ and-false (eqb (v .switch) 1) _
           (and-false (eqb (segment-questions (length m) (as-dbr (c .dbr)) (v .save) _) 0) _
-          (and-false (leb 13 _) _ (ap (λ w. descriptor-in w .write) (sym same-word) ∙ sym eb ∙ not-true b h)))
+          (and-false (leb 13 (descriptor-in (descriptor-word (as-dbr (c .dbr)) m (v .save)) .length)) _ (ap (λ w. descriptor-in w .write) (sym same-word) ∙ sym eb ∙ not-true b h)))
 
       pub can-be-saved : v .switch ≡ 1 → not b ≡ false → Saves-in v c m (d .0)
       can-be-saved on h =

@@ -91,7 +91,14 @@ fn any_code() -> Descriptor
 }
 
 // A, DBR, IPR and the PRs of a frame, 34 and 52 asked first.
-fn take_up(core: Core, code: Descriptor, prs: &mut [u16; 24], frame: &[u64], words: usize, t: Pointer) -> After
+fn take_up(
+    core: Core,
+    code: Descriptor,
+    prs: &mut [u16; 24],
+    frame: &[u64],
+    words: usize,
+    t: Pointer,
+) -> After
     requires { ⌜ length (now frame) ≡ 13 ⌝ }
     ensures { λ x. ⌜ Taken core code (as-pointers (now (prs .entry))) words (now (frame .entry)) (as-pointer t) x (as-pointers (now (prs .exit))) ⌝ }
 {
@@ -128,6 +135,13 @@ pub fn restore(
     let dbr = core.dbr;
     match look(dbr, memory, t) {
         Translated::Refused(n) => state::faulted(core, code, n, t),
-        Translated::Passed(d) => take_up(core, code, prs, frame_at(memory, d, t.word), memory.len(), t),
+        Translated::Passed(d) => take_up(
+            core,
+            code,
+            prs,
+            frame_at(memory, d, t.word),
+            memory.len(),
+            t,
+        ),
     }
 }
