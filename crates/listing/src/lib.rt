@@ -61,7 +61,17 @@ pub fn list(
             };
         }
         let steps = chunk_of(budget - done, room);
-        x = chunks::list_chunk(delivery, x.core, prs, memory, done, x.total, steps, text, length);
+        x = chunks::list_chunk(
+            delivery,
+            x.core,
+            prs,
+            memory,
+            done,
+            x.total,
+            steps,
+            text,
+            length,
+        );
         if x.is_last {
             return Listed {
                 line: x,
