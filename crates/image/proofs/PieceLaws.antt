@@ -83,7 +83,7 @@ module _ (l : Loading) (m piece : List ℕ) (e : Bool) (x : Loaded) (m-now u : L
   pub piece-within : Loading-within (x .loading) m-now
   piece-within = w .within
 
-  pub kept-few : (n : ℕ) → x .outcome ≡ More n → n < 61
+  pub kept-few : (n : ℕ) → x .outcome ≡ More n → n < 66
   kept-few n o = subst (Piece-within e (x .loading)) o (w .outcome-within) .1
 
   pub piece-words : (b : ℕ) → x .outcome ≡ Ready b → x .loading .words ≤ length m-now
