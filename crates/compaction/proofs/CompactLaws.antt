@@ -12,7 +12,7 @@ use mir.Val.{Fits}
 use mir.Facts.{fits-le}
 use Rattle.model.specs.Convert.{records, joined, left-over, superseded, last-of-each, kept-of}
 use Rattle.model.specs.Image.{stored}
-use Rattle.buffers.specs.Move.{moved-down}
+use Rattle.buffers.specs.Move.{bytes-moved}
 use Rattle.buffers.proofs.MoveLaws.{length-moved, take-moved, drop-moved, part-of-front}
 use Rattle.compaction.specs.declared.front.FrontRecord.{FrontRecord}
 use Rattle.compaction.specs.Front.{written-word, Front-of}
@@ -104,9 +104,9 @@ module _ {end : ℕ} {entry last : List ℕ} {from to : ℕ} {b : List ℕ} (i :
     pub one-in-buffer : from + r .size ≤ length b
     one-in-buffer = let y = one-within in let z = i .same-length in let h = i .room in omega arith
 
-    module _ (z : r .size ≡ 0) (exit : List ℕ) (moved : exit ≡ moved-down from to (end - from) b) where
+    module _ (z : r .size ≡ 0) (exit : List ℕ) (moved : exit ≡ bytes-moved from to (end - from) b) where
       pub all-compacted : Compacted end entry (to + (end - from)) exit
-      unfolding moved-down
+      unfolding bytes-moved
       all-compacted =
           let h = i .from-within in
           let t = i .to-within in
@@ -177,7 +177,7 @@ module _ {end : ℕ} {entry last : List ℕ} {from to : ℕ} {b : List ℕ} (i :
                   (ap kept-of (sym whole) ∙ record-dropped one rest records-whole (told ∙ ap not (sym asked ∙ e)) ∙ ap kept-of rest-is);
             }
 
-        pub one-kept : last-here ≡ true → (exit : List ℕ) → exit ≡ moved-down from to (r .size) b → Compacted-so-far end entry last (from + r .size) (to + r .size) exit
+        pub one-kept : last-here ≡ true → (exit : List ℕ) → exit ≡ bytes-moved from to (r .size) b → Compacted-so-far end entry last (from + r .size) (to + r .size) exit
         one-kept e exit moved =
             record {
               room = i .room;

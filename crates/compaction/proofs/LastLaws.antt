@@ -129,7 +129,7 @@ pub none-noted : (bs t : List ℕ) → Noted-so-far bs t 0 t
 none-noted bs t = record { in-bytes = omega arith; same = refl }
 
 -- the bytes from `at` on, as a part of a slice
-from-is-drop : (at : ℕ) (bs : List ℕ) → take (length bs - at) (drop at bs) ≡ drop at bs
+pub from-is-drop : (at : ℕ) (bs : List ℕ) → take (length bs - at) (drop at bs) ≡ drop at bs
 from-is-drop at bs = take-all (length bs - at) (drop at bs) (let z = length-drop at bs in omega arith)
 
 module _ {bs places : List ℕ} {at : ℕ} {t : List ℕ} (i : Noted-so-far bs places at t) {r : FrontRecord} (g : Front-of (take (length bs - at) (drop at bs)) r) where

@@ -20,7 +20,7 @@ use Rattle.loading.proofs.RecordLaws.{within-still}
 use Rattle.image.specs.declared.load.LoadOutcome.the-variants as Load
 use Rattle.image.specs.declared.load.Loaded.{Loaded}
 use Rattle.image.specs.Load.{Loaded-as}
-use Rattle.buffers.specs.Move.{moved-down}
+use Rattle.buffers.specs.Move.{bytes-moved}
 use Rattle.buffers.proofs.MoveLaws.{length-moved, take-moved}
 use Rattle.compaction.specs.Compacted.{Compacted}
 use Rattle.conversion.specs.declared.ConvertOutcome.{ConvertOutcome}
@@ -141,7 +141,7 @@ module _ (kept size : ℕ) (t : List ℕ) (h : kept ≤ size) (room : size ≤ l
       ap (drop kept) (c .bytes) ∙ ap (λ k. drop k (new ++ drop n t)) (let g : kept ≡ length new + (kept - n) = omega arith in g)
       ∙ drop-append-add new (drop n t) (kept - n) ∙ drop-drop (kept - n) n t ∙ ap (λ k. drop k t) (let g : n + (kept - n) ≡ kept = omega arith in g)
 
-  module _ (u : List ℕ) (e : u ≡ moved-down kept n (size - kept) v) where
+  module _ (u : List ℕ) (e : u ≡ bytes-moved kept n (size - kept) v) where
     moved : take (n + (size - kept)) u ≡ take n v ++ take (size - kept) (drop kept v)
     moved = ap (take (n + (size - kept))) e ∙ take-moved v kept n (size - kept) (room-to-move .0) (room-to-move .1)
 
