@@ -197,6 +197,13 @@ parts-join k size t rest h =
     sym (append-assoc (take k t) (waiting k size t) rest)
     ∙ ap (λ xs. xs ++ rest) (sym (take-add k (size - k) t) ∙ ap (λ n. take n t) (let e : k + (size - k) ≡ size = omega arith in e))
 
+pub renewed-length : (size : ℕ) (t : List ℕ) → size + 5 ≤ length t → (n : ℕ) (u : List ℕ) → Renewed size t n u → length u ≡ length t
+renewed-length size t room n u c =
+    let new = with-zeros (kept-of (take size t)) in
+    let z = length-append new (drop n t) in
+    let y = length-drop n t in
+    ap length (c .bytes) ∙ z ∙ (let s = c .size in let q = c .within in let g : length new + length (drop n t) ≡ length t = omega arith in g)
+
 front-renewed : (size : ℕ) (t : List ℕ) (n : ℕ) (u : List ℕ) → Renewed size t n u → (d : Delivery) (m : Machine) (b : ℕ) →
     Image.stored-image (take size t) ≡ Image.loaded d m b → take n u ≡ compacted (take size t)
 front-renewed size t n u c d m b a =
