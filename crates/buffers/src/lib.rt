@@ -36,9 +36,9 @@ pub fn clear(buffer: &mut [u8], at: usize, size: usize)
     requires { ⌜ at + size ≤ length (now buffer) ⌝ }
     ensures { λ _. ⌜ now (buffer .exit) ≡ cleared at size (now (buffer .entry)) ⌝ }
 {
-    let mut i = 0;
-    while i < size {
-        buffer[at + i] = 0;
-        i += 1;
+    let mut k = 0;
+    while k < size {
+        buffer[at + k] = 0;
+        k += 1;
     }
 }

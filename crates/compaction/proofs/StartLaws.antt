@@ -1,7 +1,7 @@
 -- Where ST ends, record by record, and the five zeros put there. Assumes nothing.
 use mathlib.Core.Path.{_≡_, refl, sym, _∙_, ap, ap₂}
 use mathlib.Core.Bool.{Bool, true, false, cond}
-use mathlib.Core.List.{List, [], _∷_, _++_, append-assoc}
+use mathlib.Core.List.{List, _++_, append-assoc}
 use mathlib.Core.Option.{Option, none, some}
 use Prim.Native.Nat.{ℕ, _+_, _-_, _^_, _≤_, _<_}
 use native.Mathlib.Omega.{arith}
@@ -162,9 +162,9 @@ module _ (end : ℕ) (t : List ℕ) (room : end + 5 ≤ length t) (at : ℕ) (is
   pub room-to-move-up : at + 5 + (end - at) ≤ length t
   room-to-move-up = let y = start-within in omega arith
 
-  pub room-to-clear : (u : List ℕ) → u ≡ bytes-moved at (at + 5) (end - at) t → at + 5 ≤ length u
+  pub room-to-clear : (u : List ℕ) → u ≡ bytes-moved at (at + 5) (end - at) t → (k : ℕ) → k ≤ 5 → at + k ≤ length u
   unfolding bytes-moved
-  room-to-clear u e =
+  room-to-clear u e k h =
       let y = start-within in
       let z = length-drop at t in
       let l : length u ≡ length t = ap length e ∙ length-paste t (at + 5) (drop at t) (end - at) (omega arith) (omega arith) in

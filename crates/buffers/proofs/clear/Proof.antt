@@ -9,10 +9,10 @@ use Rattle.buffers.proofs.clear.Statement.{statement}
 use Rattle.buffers.proofs.clear.Tie as tie
 
 abbrev Inv-loop : tie.InvT-loop
-Inv-loop buffer₀ at size i₀ buffer i = (i ≤ size) × (length buffer ≡ length buffer₀) × (buffer ≡ cleared at i buffer₀)
+Inv-loop buffer₀ at size k₀ buffer k = (k ≤ size) × (length buffer ≡ length buffer₀) × (buffer ≡ cleared at k buffer₀)
 
 abbrev μ-loop : tie.MeasureT-loop
-μ-loop buffer₀ at size i₀ buffer i = size - i
+μ-loop buffer₀ at size k₀ buffer k = size - k
 
 loop-holds : tie.Need-loop-holds Inv-loop μ-loop
 loop-holds c = search (needs, clears)
@@ -23,8 +23,8 @@ add-buffer c = search (needs, clears)
 slice-write-buffer : tie.Need-slice-write-buffer Inv-loop μ-loop
 slice-write-buffer c = search (needs, clears)
 
-add-i : tie.Need-add-i Inv-loop μ-loop
-add-i c = search (needs, clears)
+add-k : tie.Need-add-k Inv-loop μ-loop
+add-k c = search (needs, clears)
 
 loop-less : tie.Need-loop-less Inv-loop μ-loop
 loop-less c = search (needs, clears)
@@ -47,7 +47,7 @@ clear-spec =
     loop-holds
     add-buffer
     slice-write-buffer
-    add-i
+    add-k
     loop-less
     loop-again
     same-length
