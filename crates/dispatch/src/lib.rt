@@ -71,6 +71,12 @@ pub fn perform(
             }
             halt(core, code)
         }
+        42 => {
+            if ipr.ring != 0 {
+                return state::faulted(core, code, 33, ipr);
+            }
+            frames::restore::restore(core, code, prs, memory, t)
+        }
         _ => state::faulted(core, code, 32, ipr),
     }
 }

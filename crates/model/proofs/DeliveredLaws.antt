@@ -54,17 +54,17 @@ pub delivers-when : Delivers-when
 unfolding delivers can-save segment-passes
 delivers-when v m = (
   λ e.
-  let s = and-right (eqb (v .switch) 1) _ e in
-  let d = descriptor-of m (v .save) in
-  let l = and-right (eqb (segment-questions (length (m .memory)) (m .registers .dbr) (v .save) d) 0) _ s in
-  record {
-    switch-on = eqb-true _ _ (and-left (eqb (v .switch) 1) _ e);
-    segment-passes = eqb-true _ _ (and-left (eqb (segment-questions (length (m .memory)) (m .registers .dbr) (v .save) d) 0) _ s);
-    long-enough = leb-true _ _ (and-left (leb 13 (d .length)) _ l);
-    write-on = and-right (leb 13 (d .length)) _ l;
-  },
+      let s = and-right (eqb (v .switch) 1) _ e in
+      let d = descriptor-of m (v .save) in
+      let l = and-right (eqb (segment-questions (length (m .memory)) (m .registers .dbr) (v .save) d) 0) _ s in
+      record {
+        switch-on = eqb-true _ _ (and-left (eqb (v .switch) 1) _ e);
+        segment-passes = eqb-true _ _ (and-left (eqb (segment-questions (length (m .memory)) (m .registers .dbr) (v .save) d) 0) _ s);
+        long-enough = leb-true _ _ (and-left (leb 13 (d .length)) _ l);
+        write-on = and-right (leb 13 (d .length)) _ l;
+      },
   λ h.
-  and-both _ _ (eq-eqb _ _ (h .switch-on)) (and-both _ _ (eq-eqb _ _ (h .segment-passes)) (and-both _ _ (le-leb _ _ (h .long-enough)) (h .write-on))),
+      and-both _ _ (eq-eqb _ _ (h .switch-on)) (and-both _ _ (eq-eqb _ _ (h .segment-passes)) (and-both _ _ (le-leb _ _ (h .long-enough)) (h .write-on))),
 )
 
 -- WHAT IT LEAVES

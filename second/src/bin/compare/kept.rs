@@ -15,7 +15,7 @@ pub enum Input {
 
 const WORDS: usize = 256;
 const TEXT: usize = 64 * 201 + 32;
-/// An ST record without its mark.
+/// A stored ST record without its mark: switch and both segments are 0.
 const RECORD: usize = 59;
 
 /// Every input in a folder that is one, with its file's name, in the names' order.
@@ -59,5 +59,6 @@ fn registers(record: &[u8; RECORD]) -> Registers {
         dbr: Dbr { address: number(&record[8..12]) as u32, length: number(&record[12..14]) as u16 },
         ipr: pointer(14),
         pr: std::array::from_fn(|k| pointer(19 + 5 * k)),
+        ..Registers::default()
     }
 }
