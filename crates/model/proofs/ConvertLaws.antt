@@ -9,11 +9,11 @@ use lib.ListN.{length, take, drop, replicate, length-append, take-append-drop}
 use lib.Seq.{take-append-add, drop-append-add}
 use Rattle.model.specs.Registers.{Delivery, Machine}
 use Rattle.model.specs.Image.{stored, today, ME, ST, WD, RN, Mark, mark-of, nothing-loaded, has, memory-of, or-else, loaded, image-after, image, stored-image}
-use Rattle.model.specs.Convert.{front-size, records, joined, left-over, some-writes, last-of-each, kept-of, added, renewed, compacted, convert-on, convert-after, convert}
+use Rattle.model.specs.Convert.{front-size, records, joined, left-over, some-writes, last-of-each, kept-of, added, renewed, compacted, is-start, start-end, with-zeros-at, convert-on, convert-after, convert}
 use Rattle.model.specs.Converted.{Sublist, none-left, kept, dropped, One-an-address, with-todays-start, Rules-agree, Today-as-stored, Converted-loads, Refused-converts, Converted-records, Converted-is-sublist}
 use Rattle.model.proofs.CutLaws.{All-whole, joined-records, joined-left-over, cut}
 use Rattle.model.proofs.LastLaws.{none-lost, last-of-each-sublist, last-of-each-once, last-of-each-whole, kept-records, kept-left-over, compacted-in-two}
-use Rattle.model.proofs.FrontLaws.{accepted-whole, is-start, starts, accepted-starts}
+use Rattle.model.proofs.FrontLaws.{accepted-whole, starts, accepted-starts}
 use Rattle.model.proofs.OverwrittenLaws.{last-of-each-loads}
 use Rattle.model.proofs.OnceLaws.{all-whole-renewed, some-writes-renewed, once-renewed, no-record-today, as-stored, today-as-stored-where-once, accepted-once}
 
@@ -54,13 +54,6 @@ today-as-stored bs v m b e =
     sym (agree-where-once bs (once .0)) ∙ e
 
 -- THE FIVE BYTES stand where ST ends
-unfoldable pub start-end : (records : List (List ℕ)) → ℕ
-start-end [] = 0
-start-end (x ∷ xs) = length x + cond (is-start (mark-of x)) 0 (start-end xs)
-
-unfoldable pub with-zeros-at : (at : ℕ) → List ℕ → List ℕ
-with-zeros-at p bs = take p bs ++ (replicate 5 0 ++ drop p bs)
-
 zeros-after : (x bs : List ℕ) (p : ℕ) → with-zeros-at (length x + p) (x ++ bs) ≡ x ++ with-zeros-at p bs
 unfolding with-zeros-at
 zeros-after x bs p =

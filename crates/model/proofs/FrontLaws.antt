@@ -1,6 +1,6 @@
 -- An image by the record in front of it, and what its acceptance says. Assumes nothing.
 use mathlib.Core.Path.{_≡_, refl, sym, _∙_, ap, subst}
-use mathlib.Core.Bool.{Bool, true, false, _&&_, not, cond}
+use mathlib.Core.Bool.{true, _&&_, not, cond}
 use mathlib.Core.List.{List, [], _∷_, _++_, append-assoc}
 use mathlib.Core.Option.{Option, none, some}
 use Prim.Native.Nat.{ℕ, zero, suc, _+_}
@@ -11,7 +11,7 @@ use borrow.Author.Tests.{not-true, lt-leb, eqb-true}
 use Rattle.model.specs.Registers.{Delivery, Machine}
 use Rattle.model.specs.Run.{unless-refused}
 use Rattle.model.specs.Image.{Rules, Mark, ME, ST, WD, RN, mark-of, record-size, Loading, has, in-order, memory-allowed, address-allowed, address-new, record-questions, with-word, with-record, Image, refused-image, loaded, record-on, whole-record-on, marked-on, bytes-on, image-after}
-use Rattle.model.specs.Convert.{size-by, front-size, joined}
+use Rattle.model.specs.Convert.{size-by, front-size, joined, is-start}
 use Rattle.model.proofs.BranchLaws.{and-left, and-right}
 use Rattle.model.proofs.QuestionLaws.{ask-yes}
 use Rattle.model.proofs.ImageLaws.{record-has-a-mark, image-record-by-record, image-is-records}
@@ -129,13 +129,6 @@ accepted-whole l (x ∷ xs) t d m b r w z e =
     last-record (w .0 .mark) l x xs t d m b (p .0) (p .1) (λ j s f. accepted-whole j xs t d m b (s ∙ r) (w .1) z f)
 
 -- AN ACCEPTED IMAGE HAS ONE ST
-unfoldable pub is-start : Option Mark → Bool
-is-start none = false
-is-start (some ME) = false
-is-start (some ST) = true
-is-start (some WD) = false
-is-start (some RN) = false
-
 unfoldable pub starts : List (List ℕ) → ℕ
 starts [] = 0
 starts (x ∷ xs) = cond (is-start (mark-of x)) (suc (starts xs)) (starts xs)

@@ -2,7 +2,7 @@
 use mathlib.Core.Bool.{Bool, true, false, _&&_, _||_, cond}
 use mathlib.Core.List.{List, [], _∷_, _++_, map}
 use mathlib.Core.Option.{Option, none, some}
-use Prim.Native.Nat.{ℕ, zero, suc, _-_}
+use Prim.Native.Nat.{ℕ, zero, suc, _+_, _-_}
 use lib.Dec.{ltb, leb, eqb}
 use lib.ListN.{length, take, drop, replicate}
 use Rattle.model.specs.Image.{Rules, stored, Mark, ME, ST, WD, RN, mark-of, record-size, number-at, Loading, nothing-loaded, Image, refused-image, loaded, image-after, stored-image}
@@ -76,6 +76,21 @@ renewed x = x ++ added (mark-of x)
 -- the image with both changes
 unfoldable pub compacted : List ℕ → List ℕ
 compacted bs = joined (map renewed (last-of-each (records stored bs))) ++ left-over stored bs
+
+-- of an image with one ST they stand where it ends
+unfoldable pub is-start : Option Mark → Bool
+is-start none = false
+is-start (some ME) = false
+is-start (some ST) = true
+is-start (some WD) = false
+is-start (some RN) = false
+
+unfoldable pub start-end : (records : List (List ℕ)) → ℕ
+start-end [] = 0
+start-end (x ∷ xs) = length x + cond (is-start (mark-of x)) 0 (start-end xs)
+
+unfoldable pub with-zeros-at : (at : ℕ) → List ℕ → List ℕ
+with-zeros-at p bs = take p bs ++ (replicate 5 0 ++ drop p bs)
 
 -- THE PROGRAM: the stored image is judged, then written. With `kept` the bytes whose records have been loaded, and those that come after them
 unfoldable pub convert-on : Image → (bytes : List ℕ) → List ℕ
