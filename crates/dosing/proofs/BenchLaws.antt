@@ -1,5 +1,5 @@
 -- The bench's call: one law for each answer. Assumes nothing.
-use mathlib.Core.Path.{_≡_, refl, sym, _∙_, ap, subst}
+use mathlib.Core.Path.{_≡_, refl, sym, _∙_, ap, ap₂, subst}
 use mathlib.Core.Bool.{true, false, false≢true}
 use mathlib.Core.List.{List, []}
 use Prim.Native.Nat.{ℕ, _+_, _-_, _*_, _≤_, _<_}
@@ -28,7 +28,7 @@ use Rattle.image.specs.declared.load.LoadOutcome.the-variants.{Refused, More, R
 use Rattle.loading.specs.View.{rules-of, as-loading, Starts}
 use Rattle.loading.specs.Record.{outcome-image}
 use Rattle.image.specs.Load.{as-outcome, Loaded-as}
-use Rattle.image.proofs.LoadLaws.{image-loaded, may-load, words-within, loaded-machine}
+use Rattle.image.proofs.LoadLaws.{image-loaded, may-load, words-within, loaded-delivery, loaded-machine}
 use Rattle.calls.specs.declared.Called.{Called}
 use Rattle.calls.specs.Call.{Called-as}
 use Rattle.calls.proofs.CallLaws.{refuses, wrote}
@@ -111,6 +111,6 @@ module _ (l : Loading) (v bs t : List ℕ) (x : Loaded) (k : List ℕ) (s : Star
   unfolding bench outcome-image
   image-listed b o y u =
       subst (λ (i : Image.Image). Called-as (bench-on i t) y u)
-      (sym (whole ∙ ap (λ o. outcome-image (as-outcome o) (as-loading (x .loading) k) bs []) o ∙ ap (λ m. checked m b) (ready-machine l v bs x k w b o)))
+      (sym (whole ∙ ap (λ o. outcome-image (as-outcome o) (as-loading (x .loading) k) bs []) o ∙ ap₂ (λ d m. checked d m b) (loaded-delivery (x .loading) k) (ready-machine l v bs x k w b o)))
 
 pub ruleset whole-image = (may-load, ready-words, ready-part, image-refused, no-more, image-listed)
