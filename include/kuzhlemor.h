@@ -18,8 +18,9 @@
  * so, the handler's own as well; a refusal never is. With the switch off, or where the save segment won't do, the fault ends
  * the run.
  *
- * Opcode 42 (RCU), which is privileged, takes up A, DBR, IPR and PR0 to PR7 from a frame at its operand. It reads where its
- * operand leads: a handler that reaches it through a pointer of an outer ring may be handed a forged frame. The save segment
+ * Opcode 42 (RCU), which is privileged, takes up A, DBR, IPR and PR0 to PR7 from the frame at its operand: 15 and 22 are asked
+ * of all thirteen words, 34 of the DBR, and 52 is whether no PR of the frame has a lower ring than its IPR. It reads where its
+ * operand leads: a handler that gets there through a pointer of an outer ring may be handed a forged frame. The save segment
  * belongs where ring 0 alone can write.
  *
  * The record is used in place: during the call it holds registers half-way through a run. The bytes of padding in the
@@ -127,7 +128,7 @@ int64_t kuzhlemor_bench(const uint8_t *image, size_t image_length, uint8_t *text
  * old one did.
  *
  * The new image may be longer than the old one by those five bytes, so the caller lends them too. The buffer is the stored
- * image and five bytes of room after it, whatever they hold; `length` is the image's length and 5:
+ * image and five bytes of room after it, whatever they hold; `length` is the image's length plus 5:
  *
  *     uint8_t buffer[MOST_BYTES + 5];
  *     size_t stored = fread(buffer, 1, MOST_BYTES, file);
