@@ -152,7 +152,7 @@ static void delivered_faults(void)
 /* 2 of ST's last five bytes, and an ST without them. */
 static void last_fields(void)
 {
-    const size_t at = 6 + 61;
+    const size_t at = 6 + STORED_ST_SIZE;
     size_t length = delivered(13, 1, 6);
 
     for (unsigned value = 2; value < 256; value++) {

@@ -440,11 +440,11 @@ static void todays_images(void)
     old.end = put_st(old.end, &(kuzhlemor_registers){0});
     rn(&old, 5);
     expect_refused("an image of today's without WDs", 41);
-    /* The five bytes of another ST, read as a record of their own. */
+    /* What a conversion has written isn't converted again. */
     put_each_once(&new);
     memcpy(old.bytes, new.bytes, length_of(&new));
     old.end = old.bytes + length_of(&new);
-    expect_refused("what a conversion has written", 41);
+    expect_refused("a converted image", 41);
 }
 
 /* A machine's image in which other words come before its own ones for some addresses. */
