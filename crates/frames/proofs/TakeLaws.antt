@@ -12,7 +12,7 @@ use borrow.Author.Tests.{le-ltb, lt-ltb, ltb-true, lt-leb, le-leb, not-true, not
 use Rattle.model.specs.Words as Words
 use Rattle.model.specs.Words.{Pointer, descriptor-in, pointer-in}
 use Rattle.model.specs.Registers.{Dbr, Registers, machine, dbr-in}
-use Rattle.model.specs.Questions.{ask, then-ask, all, rings-at-least, dbr-fits, segment-questions, word-questions, use-questions, may-execute, read-questions, part-questions}
+use Rattle.model.specs.Questions.{ask, then-ask, all, rings-at-least, dbr-fits, segment-questions, word-questions, use-questions, may-execute, may-read, read-questions, part-questions}
 use Rattle.model.specs.Program.{Program, finish, fail, execute, descriptor-of, absolute-address}
 use Rattle.model.specs.Step as Step
 use Rattle.model.proofs.BranchLaws.{and-both}
@@ -39,9 +39,19 @@ module _ (t : Pointer) (d l : ℕ) (e : l ≡ descriptor-in d .length) where
   unfolding part-questions word-questions then-ask ask
   part-too-short h = sym (rw (← e, le-ltb (t .word + 13 - 1) l (omega arith)))
 
-  pub part-whole : t .word + 12 < l → (n : ℕ) → n ≡ read-questions t (descriptor-in d) → n ≡ part-questions 13 t (descriptor-in d)
-  unfolding part-questions word-questions then-ask ask
-  part-whole h n f = f ∙ sym (rw (← e, lt-ltb (t .word + 13 - 1) l (omega arith)))
+  module _ (h : t .word + 12 < l) where
+    part-whole : (n : ℕ) → n ≡ read-questions t (descriptor-in d) → n ≡ part-questions 13 t (descriptor-in d)
+    unfolding part-questions word-questions then-ask ask
+    part-whole n f = f ∙ sym (rw (← e, lt-ltb (t .word + 13 - 1) l (omega arith)))
+
+    module _ (b : Bool) (f : b ≡ may-read t (descriptor-in d)) where
+      pub part-unreadable : not b ≡ true → 22 ≡ part-questions 13 t (descriptor-in d)
+      unfolding read-questions ask
+      part-unreadable g = part-whole 22 (rw (← f, not-true b g))
+
+      pub part-passes : not b ≡ false → 0 ≡ part-questions 13 t (descriptor-in d)
+      unfolding read-questions ask
+      part-passes g = part-whole 0 (rw (← f, not-false b g))
 
 pub word-fits : (d i : ℕ) → i < descriptor-in d .length → i < 65536
 unfolding descriptor-in Words.field
@@ -51,7 +61,7 @@ word-fits d i h = omega arith
 pub passed-inside : (b : Dbr) (m : List ℕ) (p : Code.Pointer) (y : Translated) (d : Descriptor) → translated b m (as-pointer p) y → y ≡ Passed d → p .word .0 < descriptor-in (d .0) .length
 passed-inside b m p y d s e = (rw e at s) .inside
 
-pub ruleset part-answers = (part-too-short, part-whole, word-fits)
+pub ruleset part-answers = (part-too-short, part-unreadable, part-passes, word-fits)
 
 -- THIRTEEN WORDS of memory
 pub part-of-memory : (m : List ℕ) (s a x : ℕ) → s ≡ a → a ≡ x → take (s + 13 - s) (drop s m) ≡ take 13 (drop x m)

@@ -10,7 +10,6 @@ ghost use Rattle.words.specs.View.{as-pointer};
 ghost use Rattle.segments.specs.Translation.{as-dbr, looked};
 ghost use Rattle.state.specs.View.{as-pointers, Ready, Does};
 ghost use Rattle.frames.specs.Frame.{Taken};
-use questions::Use;
 use segments::translate::Dbr;
 use segments::translate::Translated;
 use state::After;
@@ -28,7 +27,10 @@ fn part_answer(t: Pointer, d: Descriptor) -> u8
     if words::descriptor::length_of(d) <= t.word.0 + 12 {
         return 15;
     }
-    questions::use_answer(Use::Read, t, t, d)
+    if !questions::is_readable(d, t) {
+        return 22;
+    }
+    0
 }
 
 fn look(dbr: Dbr, memory: &[u64], t: Pointer) -> Translated

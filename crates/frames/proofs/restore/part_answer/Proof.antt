@@ -13,11 +13,14 @@ add-if1 c = search (needs, part-answers)
 returns : tie.Need-returns
 returns c = search (needs, part-answers)
 
-use-answer-requires : tie.Need-use-answer-requires
-use-answer-requires c κs = search (needs, part-answers)
+is-readable-requires : tie.Need-is-readable-requires
+is-readable-requires c κs = search (needs, part-answers)
 
 returns-2 : tie.Need-returns-2
 returns-2 c = search (needs, part-answers)
+
+returns-3 : tie.Need-returns-3
+returns-3 c = search (needs, part-answers)
 
 pub part-answer-spec : {M : Type 1} → statement M
 part-answer-spec =
@@ -26,5 +29,6 @@ part-answer-spec =
     length-of-requires
     add-if1
     returns
-    use-answer-requires
-    returns-2)
+    is-readable-requires
+    returns-2
+    returns-3)
