@@ -1,6 +1,6 @@
 /* The ring processor as a C library: one step, or a run under a budget, over a register record and a memory that the
  * caller lends; a whole image run for its listing; and a stored image of the old rules made into one of today's. Link
- * with libkuzhlemor.a (x86-64, System V calling convention), which needs nothing but memset.
+ * with libkuzhlemor.a (x86-64, System V calling convention), which needs nothing but memset and memmove.
  *
  * The caller tests nothing first. Any values in the record and in memory, broken ones too, any number of words and any
  * budget get a defined reply. What the caller owes is the usual of C:
