@@ -50,7 +50,7 @@ fn run_fields(
         at.word.0,
         prs,
         memory,
-        budget,
+        budget, // of the run
         &mut none,
         single,
     );
