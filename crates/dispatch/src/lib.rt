@@ -66,10 +66,16 @@ pub fn perform(
             operations::access::load_dbr(core, code, memory, t)
         }
         41 => {
-            if ipr.ring != 0 {
+            if ipr.ring != 0 { // 33 of HLT
                 return state::faulted(core, code, 33, ipr);
             }
             halt(core, code)
+        }
+        42 => {
+            if ipr.ring != 0 { // 33 of RCU
+                return state::faulted(core, code, 33, ipr);
+            }
+            state::faulted(core, code, 0, t) // RCU is performed outside the loop
         }
         _ => state::faulted(core, code, 32, ipr),
     }

@@ -1,15 +1,16 @@
-// A run under a budget: the loop around the step, and its trace. What a step does not take from the word that passed before
+// A run of plain steps under a budget: the loop around the step, and its trace. What a step does not take from the word that passed before
 // leaves the inner loop, so that the compiler lays it out of the way.
 ghost use mathlib.Core.Path.{_≡_};
 ghost use Prim.Native.Nat.{_≤_, _<_};
 ghost use lib.ListN.{length};
+ghost use Rattle.model.specs.Registers.{no-delivery};
 ghost use Rattle.model.specs.Questions.{start-questions};
-ghost use Rattle.model.specs.Run as Run;
 ghost use Rattle.words.specs.View.{as-pointer, Pointer-within};
 ghost use Rattle.segments.specs.Translation.{Code-right};
 ghost use Rattle.state.specs.View.{as-machine};
+ghost use Rattle.dispatch.specs.Plain.{plain-step};
 ghost use Rattle.processor.specs.Step.{Ready-to-perform, quickly-formed};
-ghost use Rattle.run.specs.Run.{Counted, Noted, Ran-as, Traced, Went-as, next-formed};
+ghost use Rattle.run.specs.Run.{run-by, Counted, Noted, Ran-as, Traced, Went-as, next-formed};
 use processor::Formed;
 use processor::Prepared;
 use state::After;
@@ -45,7 +46,7 @@ pub struct Went {
 }
 
 // IPR after a step and its pointer words, at the step's place in the trace; a step past the trace's end leaves it alone.
-fn note(trace: &mut [u64], count: u32, p: Pointer, pointers: u64)
+pub fn note(trace: &mut [u64], count: u32, p: Pointer, pointers: u64)
     requires { ⌜ Pointer-within p × (pointers ≤ 64) ⌝ }
     ensures { λ _. ⌜ Noted count (record { ipr = as-pointer p; pointers = pointers }) (now (trace .entry)) (now (trace .exit)) ⌝ }
 {
@@ -65,7 +66,7 @@ fn next(
     count: u32,
     budget: u32,
 ) -> Prepared
-    requires { ⌜ (start-questions (as-machine core (now prs) (now memory)) ≡ 0) × Code-right (code .0) (core .ipr .ring) (length (now memory)) ⌝ }
+    requires { ⌜ (start-questions no-delivery (as-machine core (now prs) (now memory)) ≡ 0) × Code-right (code .0) (core .ipr .ring) (length (now memory)) ⌝ }
     ensures { λ x. ⌜ next-formed count budget (as-machine core (now (prs .entry)) (now (memory .entry))) x ⌝ }
 {
     if budget <= count {
@@ -87,7 +88,7 @@ fn go_on(
     budget: u32,
     trace: &mut [u64],
 ) -> Went
-    requires { ⌜ (start-questions (as-machine core (now prs) (now memory)) ≡ 0) × Ready-to-perform (as-machine core (now prs) (now memory)) first at read × Code-right (code .0) (core .ipr .ring) (length (now memory)) × (start < budget) ⌝ }
+    requires { ⌜ (start-questions no-delivery (as-machine core (now prs) (now memory)) ≡ 0) × Ready-to-perform (as-machine core (now prs) (now memory)) first at read × Code-right (code .0) (core .ipr .ring) (length (now memory)) × (start < budget) ⌝ }
     ensures { λ x. ⌜ Went-as budget start (as-machine core (now (prs .entry)) (now (memory .entry))) (now (trace .entry)) x (as-machine (x .core) (now (prs .exit)) (now (memory .exit))) (now (trace .exit)) ⌝ }
 {
     let mut x = After {
@@ -161,8 +162,8 @@ pub fn run(
     budget: u32,
     trace: &mut [u64],
 ) -> Ran
-    requires { ⌜ start-questions (as-machine core (now prs) (now memory)) ≡ 0 ⌝ }
-    ensures { λ x. ⌜ Ran-as (Run.run-from budget 0 (as-machine core (now (prs .entry)) (now (memory .entry)))) x (as-machine (x .core) (now (prs .exit)) (now (memory .exit))) × Traced budget (as-machine core (now (prs .entry)) (now (memory .entry))) x (now (trace .entry)) (now (trace .exit)) × Counted budget (as-machine core (now (prs .entry)) (now (memory .entry))) x ⌝ }
+    requires { ⌜ start-questions no-delivery (as-machine core (now prs) (now memory)) ≡ 0 ⌝ }
+    ensures { λ x. ⌜ Ran-as no-delivery (run-by plain-step budget 0 (as-machine core (now (prs .entry)) (now (memory .entry)))) x (as-machine (x .core) (now (prs .exit)) (now (memory .exit))) × Traced plain-step budget (as-machine core (now (prs .entry)) (now (memory .entry))) x (now (trace .entry)) (now (trace .exit)) × Counted plain-step budget (as-machine core (now (prs .entry)) (now (memory .entry))) x ⌝ }
 {
     let mut at = core;
     let mut count: u32 = 0;

@@ -1,0 +1,17 @@
+-- `plain::counted` meets its contract. Assumes nothing.
+use borrow.Author.Needs.{needs}
+use Rattle.machine.proofs.PlainLaws.{counts}
+use Rattle.machine.proofs.plain.counted.Statement.{statement}
+use Rattle.machine.proofs.plain.counted.Tie as tie
+
+add-result : tie.Need-add-result
+add-result c = search needs
+
+returns : tie.Need-returns
+returns c = search (needs, counts)
+
+returns-2 : tie.Need-returns-2
+returns-2 c = search (needs, counts)
+
+pub counted-spec : {M : Type 1} → statement M
+counted-spec = tie.close (tie.spec add-result returns returns-2)
