@@ -327,12 +327,14 @@ enum {
     LARGEST = IMAGE_ROOM(2 * MOST_WORDS)
 };
 
+typedef uint8_t *st_function(uint8_t *, const kuzhlemor_registers *);
+
 /* An image of the most words with `wds` WDs, `per_address` for each address, in a scattered order: 10,007 is odd, so that
  * its multiples go through all numbers below a power of 2 before one comes again. */
-static size_t put_largest(uint8_t *image, uint32_t wds, uint32_t per_address)
+static size_t put_largest(uint8_t *image, st_function *st, uint32_t wds, uint32_t per_address)
 {
     static const kuzhlemor_registers zero;
-    uint8_t *to = put_st(put_me(image, MOST_WORDS), &zero);
+    uint8_t *to = st(put_me(image, MOST_WORDS), &zero);
 
     for (uint32_t k = 0; k < wds; k++)
         to = put_wd(to, k * 10007 % wds / per_address, k * 0x9e3779b97f4a7c15);
@@ -343,7 +345,7 @@ static size_t put_largest(uint8_t *image, uint32_t wds, uint32_t per_address)
 static void measure_loading(const char *name)
 {
     static uint8_t image[LARGEST];
-    size_t length = put_largest(image, MOST_WORDS, 1);
+    size_t length = put_largest(image, put_st, MOST_WORDS, 1);
     double best[CONTESTANTS] = {0};
 
     for (int round = 0; round < LOADS; round++)
@@ -359,7 +361,8 @@ static void measure_loading(const char *name)
     print_row(name, MOST_WORDS, best);
 }
 
-/* The time of a conversion, and in `end` what it leaves. Every one has the same place in memory. */
+/* The time of a conversion, and in `end` what it leaves; the length is with the room that it needs. Every one has the same
+ * place in memory. */
 static double timed_conversion(convert_function *convert, const uint8_t *from, size_t length, uint8_t *end, int64_t *answer)
 {
     static _Alignas(4096) uint8_t image[LARGEST];
@@ -380,7 +383,7 @@ static void measure_converting(const char *name)
     static uint8_t from[LARGEST];
     static uint8_t x[LARGEST];
     static uint8_t y[LARGEST];
-    size_t length = put_largest(from, 2 * MOST_WORDS, 2);
+    size_t length = put_largest(from, put_stored_st, 2 * MOST_WORDS, 2) + ST_GAIN;
     double plain = 0;
     double library = 0;
 

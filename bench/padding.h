@@ -5,14 +5,14 @@
 #include "kuzhlemor.h"
 
 enum {
-    PADDING = 13
+    PADDING = 15
 };
 
 /* Puts these bytes there. The compiler may drop padding wherever a record is assigned: this comes just before the call. */
 static inline void put_padding(kuzhlemor_registers *registers, const uint8_t bytes[PADDING])
 {
-    /* After DBR's length, after IPR's ring, after the ring of PR0 to PR7, and behind PR7. */
-    static const uint8_t offsets[PADDING] = {14, 15, 17, 23, 29, 35, 41, 47, 53, 59, 65, 70, 71};
+    /* After DBR's length, after IPR's ring, after the ring of PR0 to PR7, and behind the handler segment. */
+    static const uint8_t offsets[PADDING] = {14, 15, 17, 23, 29, 35, 41, 47, 53, 59, 65, 76, 77, 78, 79};
     unsigned char *record = (unsigned char *)registers;
 
     for (int k = 0; k < PADDING; k++)

@@ -13,7 +13,7 @@ kuzhlemor_reply plain_run(kuzhlemor_registers *registers, uint64_t *memory, size
         uint32_t pointer_words;
         int end = step(registers, memory, words, &at, &pointer_words);
 
-        if (end != COMPLETED && end != HALTED)
+        if (end != COMPLETED && end != HALTED && !deliver(registers, memory, words, end, at))
             return (kuzhlemor_reply){KUZHLEMOR_FAULT, (uint32_t)end, count, at, total};
         total += pointer_words;
         if (end == HALTED)

@@ -1,4 +1,4 @@
-/* A plain processor in C after document 01, with the library's records and answers: the measure for its speed, and a
+/* A plain processor in C after documents 01 and 02, with the library's records and answers: the measure for its speed, and a
  * second opinion in its tests. */
 #ifndef PLAIN_H
 #define PLAIN_H
@@ -18,6 +18,6 @@ size_t plain_list(kuzhlemor_registers *registers, uint64_t *memory, size_t words
 int64_t plain_bench(const uint8_t *image, size_t image_length, uint8_t *text, size_t text_length);
 
 /* As kuzhlemor_convert. */
-int64_t plain_convert(uint8_t *image, size_t image_length);
+int64_t plain_convert(uint8_t *image, size_t length);
 
 #endif

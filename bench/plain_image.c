@@ -8,7 +8,7 @@ enum {
     MOST_IMAGE_WORDS = 8192
 };
 
-/* By the old rules an address may have several WDs, and the last holds. */
+/* By the old rules ST has no switch and segments, and an address may have several WDs, of which the last holds. */
 typedef enum {
     TODAYS_RULES, OLD_RULES
 } rules;
@@ -65,7 +65,7 @@ size_t plain_list(kuzhlemor_registers *registers, uint64_t *memory, size_t words
         uint32_t pointer_words;
         int end = step(registers, memory, words, &at, &pointer_words);
 
-        if (end != COMPLETED && end != HALTED) {
+        if (end != COMPLETED && end != HALTED && !deliver(registers, memory, words, end, at)) {
             to = put(put(put_word(to, "fault "), (uint32_t)end, ' '), count, ' ');
             return (size_t)(put_pointer(to, at, total) - text);
         }
@@ -82,6 +82,11 @@ static bool has_mark(const uint8_t *record, const char *mark)
     return record[0] == mark[0] && record[1] == mark[1];
 }
 
+static size_t st_size(rules by)
+{
+    return by == TODAYS_RULES ? ST_SIZE : STORED_ST_SIZE;
+}
+
 /* 41 to 44 and 51 of each record, in order; the number of the first no, or 0. */
 static int load(const uint8_t *image, size_t length, rules by, image_machine *m)
 {
@@ -95,7 +100,7 @@ static int load(const uint8_t *image, size_t length, rules by, image_machine *m)
         bool st = length >= 2 && has_mark(image, "ST");
         bool wd = length >= 2 && has_mark(image, "WD");
         bool rn = length >= 2 && has_mark(image, "RN");
-        size_t size = st ? 61 : wd ? 14 : 6;
+        size_t size = st ? st_size(by) : wd ? 14 : 6;
 
         if (!(me || st || wd || rn) || length < size)
             return 41;
@@ -107,7 +112,7 @@ static int load(const uint8_t *image, size_t length, rules by, image_machine *m)
             m->words = number_at(numbers, 4);
             has_memory = true;
         } else if (st) {
-            m->registers = registers_at(numbers);
+            m->registers = by == TODAYS_RULES ? registers_at(numbers) : stored_registers_at(numbers);
             has_registers = true;
         } else if (wd) {
             uint64_t address = number_at(numbers, 4);
@@ -149,31 +154,46 @@ int64_t plain_bench(const uint8_t *image, size_t image_length, uint8_t *text, si
     return (int64_t)plain_list(&m.registers, m.memory, m.words, m.budget, text);
 }
 
-/* The size of a record of an accepted image. */
+/* The size of a record of an accepted stored image. */
 static size_t record_size(const uint8_t *record)
 {
-    return has_mark(record, "ST") ? 61 : has_mark(record, "WD") ? 14 : 6;
+    return has_mark(record, "ST") ? STORED_ST_SIZE : has_mark(record, "WD") ? 14 : 6;
 }
 
-int64_t plain_convert(uint8_t *image, size_t image_length)
+/* Drops all WDs of an accepted stored image but the last of each address. Answers what is left, and in `st` where ST ends. */
+static size_t drop_earlier(uint8_t *image, size_t length, size_t *st)
 {
-    image_machine m = {0};
     size_t last[MOST_IMAGE_WORDS];
     size_t kept = 0;
     size_t size;
-    int number = load_and_ask(image, image_length, OLD_RULES, &m);
 
-    if (number != 0)
-        return -number;
-    for (size_t at = 0; at < image_length; at += record_size(image + at))
+    for (size_t at = 0; at < length; at += record_size(image + at))
         if (has_mark(image + at, "WD"))
             last[number_at(image + at + 2, 4)] = at;
-    for (size_t at = 0; at < image_length; at += size) {
+    for (size_t at = 0; at < length; at += size) {
         size = record_size(image + at);
         if (has_mark(image + at, "WD") && last[number_at(image + at + 2, 4)] != at)
             continue;
         memmove(image + kept, image + at, size);
         kept += size;
+        if (size == STORED_ST_SIZE)
+            *st = kept;
     }
-    return (int64_t)kept;
+    return kept;
+}
+
+int64_t plain_convert(uint8_t *image, size_t length)
+{
+    image_machine m = {0};
+    size_t stored = length < ST_GAIN ? 0 : length - ST_GAIN;
+    size_t st = 0;
+    size_t kept;
+    int number = load_and_ask(image, stored, OLD_RULES, &m);
+
+    if (number != 0)
+        return -number;
+    kept = drop_earlier(image, stored, &st);
+    memmove(image + st + ST_GAIN, image + st, kept - st);
+    memset(image + st, 0, ST_GAIN);
+    return (int64_t)(kept + ST_GAIN);
 }

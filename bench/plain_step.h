@@ -1,6 +1,6 @@
-/* The machine of document 01, which counts the pointer words it reads as 02 asks, in ordinary C, written from these papers
- * alone. Nothing here is proved. Each file that includes it has one place that makes steps, so that the compiler merges the
- * whole step into that place. */
+/* The machine of document 01, which counts the pointer words it reads and delivers faults as 02 asks, in ordinary C, written
+ * from these papers alone. Nothing here is proved. Each file that includes it has one place that makes steps, so that the
+ * compiler merges the whole step into that place; what is COLD stays out of it. */
 #ifndef PLAIN_STEP_H
 #define PLAIN_STEP_H
 
@@ -8,6 +8,8 @@
 #include "words.h"
 
 #include <stdbool.h>
+
+#define COLD __attribute__((cold, noinline))
 
 enum {
     MOST_WORDS = 16777216,
@@ -50,6 +52,8 @@ static const uint8_t opcodes[256] = {
     [RETURN] = KNOWN | OPERAND,
     [LDBR] = KNOWN | OPERAND | PRIVILEGED | READ,
     [HLT] = KNOWN | PRIVILEGED,
+    /* It asks 22 itself, after 15 of its other words. */
+    [RCU] = KNOWN | OPERAND | PRIVILEGED,
 };
 
 static inline uint32_t field(uint64_t word, unsigned place, unsigned width)
@@ -89,25 +93,34 @@ static uint64_t count_of_ones(uint64_t word)
     return count;
 }
 
-/* 11 to 15: the descriptor of a segment that is used. */
-static inline int find(const kuzhlemor_registers *r, const uint64_t *memory, size_t words, kuzhlemor_pointer p,
-                       uint64_t *descriptor)
+/* 11 to 14: a segment's descriptor. */
+static inline int find_segment(const kuzhlemor_registers *r, const uint64_t *memory, size_t words, uint16_t segment,
+                               uint64_t *descriptor)
 {
     uint64_t d;
 
-    if (p.segment >= r->dbr.length)
+    if (segment >= r->dbr.length)
         return 11;
-    d = memory[r->dbr.address + p.segment];
+    d = memory[r->dbr.address + segment];
     if (!bit(d, 52))
         return 12;
     if (r1(d) > r2(d) || r2(d) > r3(d))
         return 13;
     if (address(d) + length(d) > words)
         return 14;
-    if (p.word >= length(d))
-        return 15;
     *descriptor = d;
     return 0;
+}
+
+/* 11 to 15: the descriptor of a segment that is used. */
+static inline int find(const kuzhlemor_registers *r, const uint64_t *memory, size_t words, kuzhlemor_pointer p,
+                       uint64_t *descriptor)
+{
+    int number = find_segment(r, memory, words, p.segment, descriptor);
+
+    if (number != 0)
+        return number;
+    return p.word < length(*descriptor) ? 0 : 15;
 }
 
 static inline bool may_read(uint64_t d, uint32_t ring)
@@ -208,16 +221,53 @@ static int return_to(kuzhlemor_registers *r, uint64_t d, kuzhlemor_pointer tpr)
     return COMPLETED;
 }
 
-/* 34. */
-static int load_dbr(kuzhlemor_registers *r, size_t words, uint64_t word)
+/* 34: what a word says of DBR. */
+static inline int dbr_from(uint64_t word, size_t words, kuzhlemor_dbr *dbr)
 {
     uint32_t base = field(word, 0, 24);
     uint32_t bound = field(word, 24, 13);
 
     if (bound > MOST_DESCRIPTORS || base + bound > words)
         return 34;
-    r->dbr = (kuzhlemor_dbr){base, (uint16_t)bound};
+    *dbr = (kuzhlemor_dbr){base, (uint16_t)bound};
+    return 0;
+}
+
+static int load_dbr(kuzhlemor_registers *r, size_t words, uint64_t word)
+{
+    int number = dbr_from(word, words, &r->dbr);
+
+    if (number != 0)
+        return number;
     r->ipr.word++;
+    return COMPLETED;
+}
+
+/* The pointer of a word, whatever its I. */
+static kuzhlemor_pointer pointer_from(uint64_t word)
+{
+    return pointer_to(field(word, 28, 3), field(word, 16, 12), field(word, 0, 16));
+}
+
+/* 15 of a whole frame, 22, 34 and 52; then its registers are taken up. The switch and both segments stay. */
+COLD static int take_up(kuzhlemor_registers *r, size_t words, uint64_t d, kuzhlemor_pointer tpr, const uint64_t *frame)
+{
+    kuzhlemor_registers taken = *r;
+
+    if ((uint32_t)tpr.word + FRAME > length(d))
+        return 15;
+    if (!may_read(d, tpr.ring))
+        return 22;
+    if (dbr_from(frame[FRAME_DBR], words, &taken.dbr) != 0)
+        return 34;
+    taken.a = frame[FRAME_A];
+    taken.ipr = pointer_from(frame[FRAME_IPR]);
+    for (int k = 0; k < 8; k++) {
+        taken.prs[k] = pointer_from(frame[FRAME_PRS + k]);
+        if (taken.prs[k].ring < taken.ipr.ring)
+            return 52;
+    }
+    *r = taken;
     return COMPLETED;
 }
 
@@ -307,6 +357,8 @@ static int perform(kuzhlemor_registers *r, uint64_t *memory, size_t words, uint6
         return return_to(r, d, tpr);
     case LDBR:
         return load_dbr(r, words, *target);
+    case RCU:
+        return take_up(r, words, d, tpr, target);
     default:
         break;
     }
@@ -343,6 +395,29 @@ static int step(kuzhlemor_registers *r, uint64_t *memory, size_t words, kuzhlemo
     return perform(r, memory, words, instruction, *at);
 }
 
+/* Writes a fault's frame and goes to the handler, if the switch is on and the save segment will do: 11 to 14, no less than a
+ * frame's length, W on. Else nothing changes, and the answer is no. */
+COLD static bool deliver(kuzhlemor_registers *r, uint64_t *memory, size_t words, int number, kuzhlemor_pointer at)
+{
+    uint64_t d;
+    uint64_t *frame;
+
+    if (r->fault_switch == 0 || find_segment(r, memory, words, r->save_segment, &d) != 0)
+        return false;
+    if (length(d) < FRAME || !bit(d, 50))
+        return false;
+    frame = &memory[address(d)];
+    frame[FRAME_NUMBER] = (uint64_t)number;
+    frame[FRAME_ADDRESS] = pointer_word(at);
+    frame[FRAME_A] = r->a;
+    frame[FRAME_DBR] = dbr_word(r->dbr.address, r->dbr.length);
+    frame[FRAME_IPR] = pointer_word(r->ipr);
+    for (int k = 0; k < 8; k++)
+        frame[FRAME_PRS + k] = pointer_word(r->prs[k]);
+    r->ipr = pointer_to(0, r->handler_segment, 0);
+    return true;
+}
+
 static bool in_range(kuzhlemor_pointer p)
 {
     return p.ring <= 7 && p.segment <= 4095;
@@ -358,6 +433,8 @@ static uint32_t refusal(const kuzhlemor_registers *r, size_t words)
     for (int k = 0; k < 8; k++)
         if (!in_range(r->prs[k]))
             return 2;
+    if (r->fault_switch > 1 || r->save_segment > 4095 || r->handler_segment > 4095)
+        return 2;
     for (int k = 0; k < 8; k++)
         if (r->prs[k].ring < r->ipr.ring)
             return 3;

@@ -20,7 +20,8 @@ static inline bool same_reply(kuzhlemor_reply x, kuzhlemor_reply y)
 static inline bool same_registers(const kuzhlemor_registers *x, const kuzhlemor_registers *y)
 {
     if (x->a != y->a || x->dbr.address != y->dbr.address || x->dbr.length != y->dbr.length ||
-        !same_pointer(x->ipr, y->ipr))
+        !same_pointer(x->ipr, y->ipr) || x->fault_switch != y->fault_switch || x->save_segment != y->save_segment ||
+        x->handler_segment != y->handler_segment)
         return false;
     for (int k = 0; k < 8; k++)
         if (!same_pointer(x->prs[k], y->prs[k]))

@@ -9,7 +9,13 @@ enum opcode {
     EAP = 16, SPP,
     TRA = 24, TZE, TMI,
     CALL = 32, RETURN,
-    LDBR = 40, HLT
+    LDBR = 40, HLT, RCU
+};
+
+/* The words of a frame: a fault's number, the address under question, A, DBR, IPR, then PR0 to PR7. */
+enum {
+    FRAME_NUMBER, FRAME_ADDRESS, FRAME_A, FRAME_DBR, FRAME_IPR, FRAME_PRS,
+    FRAME = FRAME_PRS + 8
 };
 
 /* The flags of a descriptor, from bit 49. */

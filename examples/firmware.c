@@ -1,5 +1,6 @@
 /* A small dosing bench: it keeps the registers and memory of a program, runs it a step at a time and as a whole, and prints
- * the listing of an image and how many pointer words it read. Build it with gcc and link libkuzhlemor.a. */
+ * the listing of an image and how many pointer words it read. It takes stored images too. Build it with gcc and link
+ * libkuzhlemor.a. */
 #include "kuzhlemor.h"
 
 #include <stdbool.h>
@@ -9,7 +10,9 @@
 enum {
     WORDS = 8192,
     BUDGET = 1000,
-    TEXT = 64 * (BUDGET + 1)
+    TEXT = 64 * (BUDGET + 1),
+    MOST_BYTES = 1 << 20,
+    CONVERSION_ROOM = 5
 };
 
 typedef struct {
@@ -33,6 +36,15 @@ static kuzhlemor_pointer pointer(const uint8_t *bytes)
     return (kuzhlemor_pointer){bytes[0], (uint16_t)number(bytes + 1, 2), (uint16_t)number(bytes + 3, 2)};
 }
 
+/* With the switch on, faults go to the handler segment, which ring 0 must be able to execute. The save segment has 13 words or
+ * more and W on; rings 0 0 0 keep the others from writing a frame for the handler to take up. */
+static void take_fault_fields(const uint8_t *bytes, kuzhlemor_registers *r)
+{
+    r->fault_switch = bytes[0];
+    r->save_segment = (uint16_t)number(bytes + 1, 2);
+    r->handler_segment = (uint16_t)number(bytes + 3, 2);
+}
+
 /* Takes the records of an image that kuzhlemor_bench has accepted into a machine of the bench's own. */
 static void take(const uint8_t *image, machine *m)
 {
@@ -49,7 +61,8 @@ static void take(const uint8_t *image, machine *m)
             m->registers.ipr = pointer(at + 14);
             for (size_t k = 0; k < 8; k++)
                 m->registers.prs[k] = pointer(at + 19 + 5 * k);
-            image += 61;
+            take_fault_fields(at + 59, &m->registers);
+            image += 66;
         } else if (memcmp(image, "WD", 2) == 0) {
             m->memory[number(at, 4)] = number(at + 4, 8);
             image += 14;
@@ -58,6 +71,19 @@ static void take(const uint8_t *image, machine *m)
             return;
         }
     }
+}
+
+/* The listing of an image. One that is refused may be a stored one: then it is converted in place, and the buffer has room
+ * behind it for what that adds. */
+static int64_t list(uint8_t *image, size_t length, uint8_t *text)
+{
+    int64_t answer = kuzhlemor_bench(image, length, text, TEXT);
+    int64_t converted;
+
+    if (answer >= 0)
+        return answer;
+    converted = kuzhlemor_convert(image, length + CONVERSION_ROOM);
+    return converted < 0 ? answer : kuzhlemor_bench(image, (size_t)converted, text, TEXT);
 }
 
 static void print_reply(const char *name, kuzhlemor_reply r)
@@ -100,7 +126,7 @@ static bool same_machine(const machine *x, const machine *y)
 
 int main(int argc, char **argv)
 {
-    static uint8_t image[1 << 20];
+    static uint8_t image[MOST_BYTES + CONVERSION_ROOM];
     static uint8_t text[TEXT];
     static machine x;
     static machine y;
@@ -114,10 +140,10 @@ int main(int argc, char **argv)
         fprintf(stderr, "usage: firmware IMAGE\n");
         return 2;
     }
-    length = fread(image, 1, sizeof image, file);
+    length = fread(image, 1, MOST_BYTES, file);
     fclose(file);
 
-    answer = kuzhlemor_bench(image, length, text, sizeof text);
+    answer = list(image, length, text);
     if (answer < 0) {
         printf("question %d\n", (int)-answer);
         return 0;

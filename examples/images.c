@@ -133,6 +133,38 @@ static machine low_pr(void)
     return m;
 }
 
+/* The same blend, but the program stores the dose over the formula's word, which is a fault. The handler, segment 2, keeps the
+ * fault's number in its word 6, raises the frame's IPR by one and goes back by opcode 42: the run goes on after the store. It
+ * finds the frame in segment 3 by pointer words of its own, since the PRs are still the laboratory's. */
+static machine mended(void)
+{
+    machine m = blend();
+    uint64_t *handler = &m.memory[32];
+
+    m.registers.fault_switch = 1;
+    m.registers.save_segment = 3;
+    m.registers.handler_segment = 2;
+    m.memory[2] = descriptor_word(32, 7, 0, 0, 0, R | W | E | V, 0);
+    m.memory[3] = descriptor_word(40, FRAME, 0, 0, 0, R | W | V, 0);
+    m.memory[18] = by_pr(STA, 2, 2);
+    handler[0] = near(LDA, 4) | I_ON;
+    handler[1] = near(STA, 5);
+    handler[2] = near(AOS, 3) | I_ON;
+    handler[3] = near(RCU, 1) | I_ON;
+    handler[4] = pointer_word(pointer_to(0, 3, FRAME_NUMBER));
+    handler[5] = pointer_word(pointer_to(0, 3, FRAME_IPR));
+    return m;
+}
+
+/* The same, but that the save segment has one word too few: the fault ends the run. */
+static machine save_too_short(void)
+{
+    machine m = mended();
+
+    m.memory[3] = descriptor_word(40, FRAME - 1, 0, 0, 0, R | W | V, 0);
+    return m;
+}
+
 /* A machine's image, and at its end word 18 as an editor wrote it once more: the dose goes to the formula's word. */
 static void write_again(const char *folder, const char *name, const machine *m)
 {
@@ -156,6 +188,8 @@ int main(int argc, char **argv)
         {"reads-the-formula", reads_the_formula, 100},
         {"endless-pointer", endless_pointer, 100},
         {"low-pr", low_pr, 100},
+        {"mended", mended, 100},
+        {"save-too-short", save_too_short, 100},
     };
     const char *folder = argc > 1 ? argv[1] : ".";
     machine m = blend();

@@ -1,6 +1,6 @@
 /* The ring processor as a C library: one step, or a run under a budget, over a register record and a memory that the
  * caller lends; a whole image run for its listing; and a stored image of the old rules made into one of today's. Link
- * with libkuzhlemor.a (x86-64, System V calling convention), which needs nothing but memset.
+ * with libkuzhlemor.a (x86-64, System V calling convention), which needs nothing but memset and memmove.
  *
  * The caller tests nothing first. Any values in the record and in memory, broken ones too, any number of words and any
  * budget get a defined reply. What the caller owes is the usual of C:
@@ -8,8 +8,20 @@
  *     null, not even when words is 0;
  *   - record and memory don't overlap, and nobody else reads or writes them during the call.
  *
- * After a call, record and memory hold exactly what the completed steps wrote. A refused call and a faulting step leave
- * both as they were. Nothing is kept between calls.
+ * After a call, record and memory hold exactly what the completed steps wrote. A refused call and a fault that isn't
+ * delivered leave both as they were. Nothing is kept between calls.
+ *
+ * A fault is delivered where the record's switch is on and the save segment passes 11 to 14, has 13 words or more and has W
+ * on; no ring is asked. Then the frame is written to words 0 to 12 of that segment: the fault's number; the address and ring
+ * under question; A; DBR; IPR; PR0 to PR7; all as they stood before the step, pointers as pointer words with I off and DBR in
+ * LDBR's layout. IPR becomes ring 0, word 0 of the handler segment, and the step is a completed one. Every fault is delivered
+ * so, the handler's own as well; a refusal never is. With the switch off, or where the save segment won't do, the fault ends
+ * the run.
+ *
+ * Opcode 42 (RCU), which is privileged, takes up A, DBR, IPR and PR0 to PR7 from the frame at its operand: 15 and 22 are asked
+ * of all thirteen words, 34 of the DBR, and 52 is whether no PR of the frame has a lower ring than its IPR. It reads where its
+ * operand leads: a handler that gets there through a pointer of an outer ring may be handed a forged frame. The save segment
+ * belongs where ring 0 alone can write.
  *
  * The record is used in place: during the call it holds registers half-way through a run. The bytes of padding in the
  * records carry nothing: whatever they hold, the fields end alike, and a call may overwrite them. */
@@ -37,29 +49,34 @@ typedef struct {
     uint16_t length;
 } kuzhlemor_dbr;
 
-/* The registers: A, DBR, IPR, and PR0 to PR7. */
+/* The registers: A, DBR, IPR, and PR0 to PR7; then what faults need, which no call changes: the switch, 0 (off) or 1 (on),
+ * and the numbers of the save segment and the handler segment, 0 to 4,095. */
 typedef struct {
     uint64_t a;
     kuzhlemor_dbr dbr;
     kuzhlemor_pointer ipr;
     kuzhlemor_pointer prs[8];
+    uint16_t fault_switch;
+    uint16_t save_segment;
+    uint16_t handler_segment;
 } kuzhlemor_registers;
 
 /* The kinds of reply. What a kind doesn't name in its reply is 0, the pointer's fields as well. */
 enum {
     /* number: the first of these that is answered no. Nothing was done.
      *   1  memory has at most 16,777,216 words
-     *   2  every ring is at most 7, every segment at most 4,095, DBR's address below 2^24
+     *   2  every ring is at most 7, every segment at most 4,095, DBR's address below 2^24; the switch is at most 1, the save
+     *      and the handler segment at most 4,095
      *   3  no PR's ring is below IPR's
      *   4  DBR's length is at most 4,096, and the descriptor segment lies within memory */
     KUZHLEMOR_REFUSED = 0,
-    /* count: the steps completed. A run: the whole budget. A single step: 1.
+    /* count: the steps completed, delivered faults among them. A run: the whole budget. A single step: 1.
      * pointer_words: how many those steps read. */
     KUZHLEMOR_SPENT = 1,
     /* count: the steps completed; HLT was the last of them. pointer_words: how many those steps read. */
     KUZHLEMOR_HALTED = 2,
-    /* number: the first question, 11 to 15 or 21 to 34, that the next instruction answered no; pointer: the address and
-     * ring under question; count: the steps completed before it. A single step: 0.
+    /* A fault that wasn't delivered. number: the first question, 11 to 15, 21 to 34 or 52, that the next instruction
+     * answered no; pointer: the address and ring under question; count: the steps completed before it. A single step: 0.
      * pointer_words: how many those steps read; what the faulting step read isn't in it. A single step: how many the
      * faulting step itself read. */
     KUZHLEMOR_FAULT = 3
@@ -67,7 +84,8 @@ enum {
 
 /* A step reads 0 to 64 pointer words, those through which its address is formed. One counts once it has been read: a
  * fault at the third has 2, 31 has 64, any fault after the address is formed has the whole chain's; a fault of the fetch,
- * 32 and 33 have 0, and so has an instruction without an operand. A run's total is at most 64 times its count. */
+ * 32 and 33 have 0, and so has an instruction without an operand. A delivered fault has as many, as a completed step. A
+ * run's total is at most 64 times its count. */
 typedef struct {
     uint32_t kind;
     uint32_t number;
@@ -76,19 +94,21 @@ typedef struct {
     uint64_t pointer_words;
 } kuzhlemor_reply;
 
-/* Performs the instruction at IPR. Answers what kuzhlemor_run does with a budget of 1, except for a fault's
- * pointer_words. */
+/* Performs the instruction at IPR, or delivers its fault. Answers what kuzhlemor_run does with a budget of 1, except for the
+ * pointer_words of a fault that isn't delivered. */
 kuzhlemor_reply kuzhlemor_step(kuzhlemor_registers *registers, uint64_t *memory, size_t words);
 
-/* Performs instructions until HLT, a fault, or as many as the budget says are completed. HLT as the last step of the
- * budget is halted. With a budget of 0 it asks 1 to 4 and answers refused or spent. A run that was spent goes on where
- * it stopped when record and memory are lent again as they were left. */
+/* Performs instructions until HLT, a fault that isn't delivered, or as many as the budget says are completed. HLT as the last
+ * step of the budget is halted. With a budget of 0 it asks 1 to 4 and answers refused or spent. A run that was spent goes on
+ * where it stopped when record and memory are lent again as they were left. */
 kuzhlemor_reply kuzhlemor_run(kuzhlemor_registers *registers, uint64_t *memory, size_t words, uint32_t budget);
 
 /* Loads an image, runs it and writes its listing into text: a line for each completed step (its number, IPR's ring, segment
  * and word after it, and how many pointer words it read) and a last line (`spent COUNT TOTAL`, `halted COUNT TOTAL` or
  * `fault NUMBER COUNT RING SEGMENT WORD TOTAL`, where TOTAL is the sum of the lines' pointer words), each ended by a
- * newline, with no zero byte after them. Answers the text's length, or a question's number negated:
+ * newline, with no zero byte after them. A delivered fault has a step's line, with IPR at the handler. ST has 64 bytes after
+ * its mark; the last five are the switch in 1 byte, the save segment and the handler segment in 2 each.
+ * Answers the text's length, or a question's number negated:
  *   -41  a record's mark is known, and the record is whole
  *   -42  ME comes first and once, ST once and before RN, RN comes once and last
  *   -43  ME says at most 8,192 words
@@ -102,13 +122,24 @@ kuzhlemor_reply kuzhlemor_run(kuzhlemor_registers *registers, uint64_t *memory, 
  * than 512 bytes. */
 int64_t kuzhlemor_bench(const uint8_t *image, size_t image_length, uint8_t *text, size_t text_length);
 
-/* Makes a stored image of the old rules, by which an address might have several WDs and the last of them held, into one of
- * today's, in place. ME, ST and RN stay, and of the WDs of each address the last, all in the order in which they stood: the
- * new image loads as the old one did. Answers the new image's length, or a question's number negated:
- *   -41 to -44, -1 to -4  as above, of the old image; 51 isn't asked of it
- * Bytes after the new image, and on refusal all of them, keep what they held. image isn't null, not even when its length
- * is 0. The call takes about 130 KiB of stack. */
-int64_t kuzhlemor_convert(uint8_t *image, size_t image_length);
+/* Makes a stored image of the old rules into one of today's, in place. By the old rules ST had 59 bytes, and an address might
+ * have several WDs, of which the last held. ST gains five zero bytes at its end: switch, save segment and handler segment are
+ * 0. ME and RN stay, and of the WDs of each address the last, all in the order in which they stood: the new image loads as the
+ * old one did.
+ *
+ * The new image may be longer than the old one by those five bytes, so the caller lends them too. The buffer is the stored
+ * image and five bytes of room after it, whatever they hold; `length` is the image's length plus 5:
+ *
+ *     uint8_t buffer[MOST_BYTES + 5];
+ *     size_t stored = fread(buffer, 1, MOST_BYTES, file);
+ *     int64_t answer = kuzhlemor_convert(buffer, stored + 5);
+ *
+ * Then the new image is the first `answer` bytes of the buffer, or the answer is a question's number negated:
+ *   -41 to -44, -1 to -4  as above, of the stored image by the old rules; 51 isn't asked of it
+ * An image of today's, whose ST has 64 bytes, is refused by the old rules (-41). A buffer shorter than five bytes is an empty
+ * image (-42). Bytes after the new image, and on refusal all of them, those of the room too, keep what they held. image isn't
+ * null, not even when the length is 0. The call takes about 130 KiB of stack. */
+int64_t kuzhlemor_convert(uint8_t *image, size_t length);
 
 /* The layout that the library was built for. */
 static_assert(sizeof(size_t) == 8, "64-bit lengths");
@@ -119,11 +150,14 @@ static_assert(offsetof(kuzhlemor_pointer, word) == 4, "word");
 static_assert(sizeof(kuzhlemor_dbr) == 8, "size of DBR");
 static_assert(offsetof(kuzhlemor_dbr, address) == 0, "DBR's address");
 static_assert(offsetof(kuzhlemor_dbr, length) == 4, "DBR's length");
-static_assert(sizeof(kuzhlemor_registers) == 72, "size of the registers");
+static_assert(sizeof(kuzhlemor_registers) == 80, "size of the registers");
 static_assert(offsetof(kuzhlemor_registers, a) == 0, "A");
 static_assert(offsetof(kuzhlemor_registers, dbr) == 8, "DBR");
 static_assert(offsetof(kuzhlemor_registers, ipr) == 16, "IPR");
 static_assert(offsetof(kuzhlemor_registers, prs) == 22, "PR0 to PR7");
+static_assert(offsetof(kuzhlemor_registers, fault_switch) == 70, "switch");
+static_assert(offsetof(kuzhlemor_registers, save_segment) == 72, "save segment");
+static_assert(offsetof(kuzhlemor_registers, handler_segment) == 74, "handler segment");
 static_assert(sizeof(kuzhlemor_reply) == 32, "size of a reply");
 static_assert(offsetof(kuzhlemor_reply, kind) == 0, "kind");
 static_assert(offsetof(kuzhlemor_reply, number) == 4, "number");

@@ -144,6 +144,8 @@ fn case_12() -> Vec<u8> {
         };
         image.extend([4, 0, segment, 0, 0]);
     }
+    // The switch and both segments.
+    image.extend([0; 5]);
     let segment = |address, length, r1, r2, r3| Descriptor {
         address,
         length,

@@ -14,12 +14,12 @@ pub struct Image {
 /// The most words of memory that ME may give.
 pub const ME_LIMIT: u32 = 8_192;
 
-/// Which WDs an image may have.
+/// What ST has, and which WDs an image may have.
 #[derive(Clone, Copy, Debug, PartialEq, Eq)]
-enum Rules {
-    /// One for each address: 51.
+pub enum Rules {
+    /// ST of 64 bytes; one WD for each address: 51.
     Today,
-    /// Any: the later of two wins. So were stored images written, before 51.
+    /// ST of 59 bytes, without switch and segments; any WDs: the later of two wins. So were stored images written.
     Stored,
 }
 
@@ -64,8 +64,8 @@ impl Bytes<'_> {
         Some(Pointer { ring: self.u8()?, segno: self.u16()?, wordno: self.u16()? })
     }
 
-    /// A 8, DBR ADDRESS 4, LENGTH 2, then IPR and PR0 to PR7.
-    fn registers(&mut self) -> Option<Registers> {
+    /// A 8, DBR ADDRESS 4, LENGTH 2, then IPR and PR0 to PR7; today the switch 1, save and handler segment 2 as well.
+    fn registers(&mut self, rules: Rules) -> Option<Registers> {
         let mut registers = Registers {
             a: self.u64()?,
             dbr: Dbr { address: self.u32()?, length: self.u16()? },
@@ -75,16 +75,21 @@ impl Bytes<'_> {
         for pr in &mut registers.pr {
             *pr = self.pointer()?;
         }
+        if rules == Rules::Today {
+            registers.fault_switch = u16::from(self.u8()?);
+            registers.save_segment = self.u16()?;
+            registers.handler_segment = self.u16()?;
+        }
         Some(registers)
     }
 
     /// 41: known mark and whole record?
-    fn record(&mut self) -> Option<Record> {
+    fn record(&mut self, rules: Rules) -> Option<Record> {
         let (mark, rest) = self.0.split_first_chunk::<2>()?;
         self.0 = rest;
         match mark {
             b"ME" => Some(Record::Me { words: self.u32()? }),
-            b"ST" => Some(Record::St { registers: self.registers()? }),
+            b"ST" => Some(Record::St { registers: self.registers(rules)? }),
             b"WD" => Some(Record::Wd { address: self.u32()?, word: self.u64()? }),
             b"RN" => Some(Record::Rn { budget: self.u32()? }),
             _ => None,
@@ -93,11 +98,11 @@ impl Bytes<'_> {
 }
 
 /// The records one after another, each with its bytes, up to the first that isn't whole.
-pub fn records(bytes: &[u8]) -> impl Iterator<Item = (Record, &[u8])> {
+pub fn records(bytes: &[u8], rules: Rules) -> impl Iterator<Item = (Record, &[u8])> {
     let mut rest = Bytes(bytes);
     std::iter::from_fn(move || {
         let before = rest.0;
-        let record = rest.record()?;
+        let record = rest.record(rules)?;
         Some((record, &before[..before.len() - rest.0.len()]))
     })
 }
@@ -108,7 +113,7 @@ pub fn read_image(bytes: &[u8]) -> Result<Image, u8> {
     read(bytes, Rules::Today)
 }
 
-/// What a stored image means: 51 isn't asked, and the later of two WDs wins.
+/// What a stored image means: 51 isn't asked, and the later of two WDs wins; switch and both segments are 0.
 pub fn read_stored_image(bytes: &[u8]) -> Result<Image, u8> {
     read(bytes, Rules::Stored)
 }
@@ -126,7 +131,7 @@ fn read(bytes: &[u8], rules: Rules) -> Result<Image, u8> {
             return Err(42);
         }
         // 41
-        let record = bytes.record().ok_or(41)?;
+        let record = bytes.record(rules).ok_or(41)?;
         match (record, &mut given) {
             // 42: ME first and single?
             (Record::Me { .. }, Some(_)) => return Err(42),

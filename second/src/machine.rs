@@ -1,14 +1,18 @@
 //! The registers, the questions in the paper's order, a step, and a run under a budget.
 
+use crate::frame;
 use crate::words::{Dbr, Descriptor, Instruction, Opcode, Pointer, PointerWord};
 
-/// PR6 is the stack pointer, PR7 the stack base.
+/// PR6 is the stack pointer, PR7 the stack base. With the switch at 1, a fault is saved and its handler goes on.
 #[derive(Clone, Copy, Debug, Default, PartialEq, Eq)]
 pub struct Registers {
     pub a: u64,
     pub dbr: Dbr,
     pub ipr: Pointer,
     pub pr: [Pointer; 8],
+    pub fault_switch: u16,
+    pub save_segment: u16,
+    pub handler_segment: u16,
 }
 
 /// What a run or a single step answers. A run's pointer words are those of its completed steps; a single step's are its
@@ -45,6 +49,8 @@ pub struct Fault {
 enum Completed {
     GoOn,
     Halt,
+    /// What it met was delivered; the handler goes on.
+    Delivered(Fault),
 }
 
 /// What forming an address gives: TPR, or the fault of a pointer word; and how many pointer words were read, 0 to 64.
@@ -91,18 +97,24 @@ fn memory_is_allowed(words: usize) -> bool {
     words <= MEMORY_LIMIT
 }
 
-/// 2: are rings ≤ 7, SEGNO ≤ 4,095, WORDNO ≤ 65,535, DBR ADDRESS ≤ 16,777,215? (A u16 is never above 65,535.)
+/// 2: are rings ≤ 7, SEGNO ≤ 4,095, WORDNO ≤ 65,535, DBR ADDRESS ≤ 16,777,215, the switch ≤ 1, save and handler segment
+/// ≤ 4,095? (A u16 is never above 65,535.)
 fn fields_are_in_range(registers: &Registers) -> bool {
     let in_range = |pointer: &Pointer| pointer.ring <= 7 && pointer.segno <= 4_095;
-    in_range(&registers.ipr) && registers.pr.iter().all(in_range) && registers.dbr.address <= 16_777_215
+    in_range(&registers.ipr)
+        && registers.pr.iter().all(in_range)
+        && registers.dbr.address <= 16_777_215
+        && registers.fault_switch <= 1
+        && registers.save_segment <= 4_095
+        && registers.handler_segment <= 4_095
 }
 
-/// 3: is every PR's RING ≥ IPR.RING?
+/// 3, and 52 of a frame's registers: is every PR's RING ≥ IPR.RING?
 fn prs_are_at_or_above_ipr(registers: &Registers) -> bool {
     registers.pr.iter().all(|pr| pr.ring >= registers.ipr.ring)
 }
 
-/// 4, and 34 of the DBR that LDBR reads: is LENGTH ≤ 4,096 and ADDRESS + LENGTH within memory?
+/// 4, and 34 of the DBR that LDBR or opcode 42 reads: is LENGTH ≤ 4,096 and ADDRESS + LENGTH within memory?
 fn descriptor_segment_is_allowed(dbr: Dbr, words: usize) -> bool {
     dbr.length <= 4_096 && is_within_memory(dbr.address, dbr.length, words)
 }
@@ -133,9 +145,9 @@ fn segment_is_within_memory(segment: &Descriptor, words: usize) -> bool {
     is_within_memory(segment.address, segment.length, words)
 }
 
-/// 15: WORDNO < LENGTH?
-fn word_exists(at: &Pointer, segment: &Descriptor) -> bool {
-    at.wordno < segment.length
+/// 15: WORDNO < LENGTH? Of several words it is asked of each, and they don't go round.
+fn words_exist(at: &Pointer, words: usize, segment: &Descriptor) -> bool {
+    usize::from(at.wordno) + words <= usize::from(segment.length)
 }
 
 // ---- By use.
@@ -205,17 +217,30 @@ fn ask(number: u8, yes: bool, at: &Pointer) -> Result<(), Fault> {
     }
 }
 
-/// The descriptor of the segment that `at` uses: 11 to 15.
+/// The descriptor of the segment of `at`: 11 to 14.
 #[inline]
-fn use_segment(dbr: &Dbr, memory: &[u64], at: &Pointer) -> Result<Descriptor, Fault> {
+fn descriptor_of(dbr: &Dbr, memory: &[u64], at: &Pointer) -> Result<Descriptor, Fault> {
     ask(11, has_descriptor(at, dbr), at)?;
     let descriptor_segment = &memory[dbr.address as usize..][..usize::from(dbr.length)];
     let segment = Descriptor::from_word(descriptor_segment[usize::from(at.segno)]);
     ask(12, is_valid(&segment), at)?;
     ask(13, rings_are_ordered(&segment), at)?;
     ask(14, segment_is_within_memory(&segment, memory.len()), at)?;
-    ask(15, word_exists(at, &segment), at)?;
     Ok(segment)
+}
+
+/// The descriptor of the segment of which so many words from `at` on are used: 11 to 15.
+#[inline]
+fn use_words(dbr: &Dbr, memory: &[u64], at: &Pointer, words: usize) -> Result<Descriptor, Fault> {
+    let segment = descriptor_of(dbr, memory, at)?;
+    ask(15, words_exist(at, words, &segment), at)?;
+    Ok(segment)
+}
+
+/// The descriptor of the segment that `at` uses: 11 to 15.
+#[inline]
+fn use_segment(dbr: &Dbr, memory: &[u64], at: &Pointer) -> Result<Descriptor, Fault> {
+    use_words(dbr, memory, at, 1)
 }
 
 /// The words of a segment whose descriptor has passed.
@@ -360,6 +385,19 @@ fn load_dbr(registers: &mut Registers, memory: &[u64], tpr: &Pointer) -> Result<
     Ok(())
 }
 
+/// Opcode 42, from a frame at TPR: 11 to 15, 22, 34, 52. The frame's IPR is asked nothing: the next fetch asks.
+fn restore(registers: &mut Registers, memory: &[u64], tpr: &Pointer) -> Result<(), Fault> {
+    let segment = use_words(&registers.dbr, memory, tpr, frame::WORDS)?;
+    ask(22, may_read(&segment, tpr.ring), tpr)?;
+    let mut words = [0; frame::WORDS];
+    words.copy_from_slice(&words_of(&segment, memory)[usize::from(tpr.wordno)..][..frame::WORDS]);
+    let restored = frame::registers(&words, registers);
+    ask(34, descriptor_segment_is_allowed(restored.dbr, memory.len()), tpr)?;
+    ask(52, prs_are_at_or_above_ipr(&restored), tpr)?;
+    *registers = restored;
+    Ok(())
+}
+
 /// 1., 32 and 33.
 #[inline]
 fn next_instruction(registers: &Registers, memory: &[u64]) -> Result<(Instruction, Opcode), Fault> {
@@ -439,6 +477,10 @@ fn use_operand(
             return Ok(Completed::GoOn);
         }
         Opcode::Ldbr => load_dbr(registers, memory, tpr)?,
+        Opcode::Rcu => {
+            restore(registers, memory, tpr)?;
+            return Ok(Completed::GoOn);
+        }
         // Performed before, without an operand.
         Opcode::Ldi | Opcode::Hlt => {}
     }
@@ -451,34 +493,77 @@ fn advance(registers: &mut Registers) {
     registers.ipr.wordno = registers.ipr.wordno.wrapping_add(1);
 }
 
+// ---- Faults that are delivered.
+
+/// The save segment, if a frame can be written there: 11 to 14, then LENGTH ≥ 13 and W on. No ring is asked.
+fn save_segment(registers: &Registers, memory: &[u64]) -> Option<Descriptor> {
+    let first = Pointer { segno: registers.save_segment, ..Pointer::default() };
+    let segment = descriptor_of(&registers.dbr, memory, &first).ok()?;
+    (usize::from(segment.length) >= frame::WORDS && segment.w).then_some(segment)
+}
+
+/// With the switch on and a save segment that will do, the frame is written and IPR becomes the handler's first word.
+/// Else nothing changes. Answers whether it was so.
+fn deliver(registers: &mut Registers, memory: &mut [u64], fault: &Fault) -> bool {
+    if registers.fault_switch == 0 {
+        return false;
+    }
+    let Some(segment) = save_segment(registers, memory) else {
+        return false;
+    };
+    words_of_mut(&segment, memory)[..frame::WORDS].copy_from_slice(&frame::of_fault(fault, registers));
+    registers.ipr = Pointer { ring: 0, segno: registers.handler_segment, wordno: 0 };
+    true
+}
+
+/// The instruction at IPR, when 1 to 4 have passed. A fault that is delivered is a completed step, with the pointer words
+/// that were read.
+#[inline]
+fn perform_or_deliver(registers: &mut Registers, memory: &mut [u64]) -> Performed {
+    let performed = perform(registers, memory);
+    match performed.result {
+        Err(fault) if deliver(registers, memory, &fault) => {
+            Performed { result: Ok(Completed::Delivered(fault)), ..performed }
+        }
+        _ => performed,
+    }
+}
+
 // ---- A run.
 
 /// One step. It answers with its own pointer words, even where it faults.
 pub fn step(registers: &mut Registers, memory: &mut [u64]) -> Reply {
+    let (reply, _) = step_and_fault(registers, memory);
+    reply
+}
+
+/// One step, and the fault that it met, delivered or not.
+pub fn step_and_fault(registers: &mut Registers, memory: &mut [u64]) -> (Reply, Option<Fault>) {
     if let Err(number) = refusal(registers, memory.len()) {
-        return Reply::Refused { number };
+        return (Reply::Refused { number }, None);
     }
-    let Performed { result, pointer_words } = perform(registers, memory);
+    let Performed { result, pointer_words } = perform_or_deliver(registers, memory);
     let pointer_words = u64::from(pointer_words);
     match result {
-        Ok(Completed::GoOn) => Reply::Spent { count: 1, pointer_words },
-        Ok(Completed::Halt) => Reply::Halted { count: 1, pointer_words },
-        Err(fault) => Reply::Fault { fault, count: 0, pointer_words },
+        Ok(Completed::GoOn) => (Reply::Spent { count: 1, pointer_words }, None),
+        Ok(Completed::Delivered(fault)) => (Reply::Spent { count: 1, pointer_words }, Some(fault)),
+        Ok(Completed::Halt) => (Reply::Halted { count: 1, pointer_words }, None),
+        Err(fault) => (Reply::Fault { fault, count: 0, pointer_words }, Some(fault)),
     }
 }
 
-/// Steps until HLT, a fault, or the budget is spent. The count is the number of completed steps, and the pointer words
-/// are theirs: a faulting step isn't in either.
+/// Steps until HLT, a fault that isn't delivered, or the budget is spent. The count is the number of completed steps, and
+/// the pointer words are theirs: a faulting step isn't in either, a delivered one is in both.
 pub fn run(registers: &mut Registers, memory: &mut [u64], budget: u32) -> Reply {
     if let Err(number) = refusal(registers, memory.len()) {
         return Reply::Refused { number };
     }
     let mut total: u64 = 0;
     for count in 0..budget {
-        let Performed { result, pointer_words } = perform(registers, memory);
+        let Performed { result, pointer_words } = perform_or_deliver(registers, memory);
         let with_this = total + u64::from(pointer_words);
         match result {
-            Ok(Completed::GoOn) => total = with_this,
+            Ok(Completed::GoOn | Completed::Delivered(_)) => total = with_this,
             Ok(Completed::Halt) => return Reply::Halted { count: count + 1, pointer_words: with_this },
             Err(fault) => return Reply::Fault { fault, count, pointer_words: total },
         }

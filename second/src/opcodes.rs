@@ -15,3 +15,4 @@ pub const CALL: u8 = 32;
 pub const RETURN: u8 = 33;
 pub const LDBR: u8 = 40;
 pub const HLT: u8 = 41;
+pub const RCU: u8 = 42;

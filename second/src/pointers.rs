@@ -74,55 +74,58 @@ impl Case {
     }
 }
 
+/// Memory. What is behind word 119 isn't used here.
+pub(crate) const WORDS: u32 = 141;
+/// DBR: words 4 to 11. Segment 8 is the first without a descriptor.
+pub(crate) const TABLE: Dbr = Dbr { address: 4, length: SEGMENTS };
+pub(crate) const SEGMENTS: u16 = 8;
 /// Words 16 to 23.
-const CODE: u16 = 1;
+pub(crate) const CODE: u16 = 1;
 /// Both are words 32 to 111: every chain goes from the one to the other and back.
-const EVEN: u16 = 2;
+pub(crate) const EVEN: u16 = 2;
 const ODD: u16 = 3;
 /// Words 112 to 119, where chains lead: to word 3.
-const TARGET: u16 = 4;
+pub(crate) const TARGET: u16 = 4;
 /// The segment in question.
-const BAD: u16 = 5;
-/// DBR's LENGTH, so that segment 8 is the first without a descriptor.
-const SEGMENTS: u16 = 8;
+pub(crate) const BAD: u16 = 5;
 
-fn pointer(ring: u8, segno: u16, wordno: u16) -> Pointer {
+pub(crate) fn pointer(ring: u8, segno: u16, wordno: u16) -> Pointer {
     Pointer { ring, segno, wordno }
 }
 
 /// Open to all.
-fn segment(address: u32, length: u16) -> Descriptor {
+pub(crate) fn segment(address: u32, length: u16) -> Descriptor {
     Descriptor { address, length, r1: 0, r2: 7, r3: 7, r: true, w: true, e: true, v: true, gate: 8 }
 }
 
-fn chain_segment() -> Descriptor {
+pub(crate) fn chain_segment() -> Descriptor {
     segment(32, 80)
 }
 
-fn target() -> Descriptor {
+pub(crate) fn target() -> Descriptor {
     segment(112, 8)
 }
 
 /// Where the chain's word is, counted from 0.
-fn link(word: u16) -> Pointer {
+pub(crate) fn link(word: u16) -> Pointer {
     pointer(0, if word % 2 == 1 { ODD } else { EVEN }, word)
 }
 
 /// By PR2, I on.
-fn through(opcode: u8) -> Instruction {
+pub(crate) fn through(opcode: u8) -> Instruction {
     Instruction { opcode, p: true, prnum: 2, i: true, reg: 5, ..Instruction::default() }
 }
 
 /// `ring` everywhere; a chain of so many words from PR2 to word 3 of TARGET; the opcode through it; budget 1.
-fn machine(ring: u8, opcode: u8, words: u16) -> Image {
+pub(crate) fn machine(ring: u8, opcode: u8, words: u16) -> Image {
     let mut machine = Image {
         registers: Registers {
-            dbr: Dbr { address: 0, length: SEGMENTS },
+            dbr: TABLE,
             ipr: pointer(ring, CODE, 0),
             pr: [pointer(ring, TARGET, 3); 8],
             ..Registers::default()
         },
-        memory: vec![0; 128],
+        memory: vec![0; WORDS as usize],
         budget: 1,
     };
     machine.registers.pr[2] = Pointer { ring, ..link(0) };
@@ -139,17 +142,17 @@ fn machine(ring: u8, opcode: u8, words: u16) -> Image {
 }
 
 impl Image {
-    fn describe(&mut self, segno: u16, descriptor: Descriptor) {
-        self.memory[usize::from(segno)] = descriptor.to_word();
+    pub(crate) fn describe(&mut self, segno: u16, descriptor: Descriptor) {
+        self.memory[self.registers.dbr.address as usize + usize::from(segno)] = descriptor.to_word();
     }
 
     /// A word of CODE.
-    fn put(&mut self, wordno: u16, instruction: Instruction) {
+    pub(crate) fn put(&mut self, wordno: u16, instruction: Instruction) {
         self.memory[16 + usize::from(wordno)] = instruction.to_word();
     }
 
     /// A word of the chain. What is above bit 31 is ignored.
-    fn point(&mut self, word: u16, to: Pointer, i: bool) {
+    pub(crate) fn point(&mut self, word: u16, to: Pointer, i: bool) {
         self.memory[32 + usize::from(word)] = PointerWord { pointer: to, i }.to_word() | !0 << 32;
     }
 
@@ -162,7 +165,7 @@ impl Image {
 
     /// PR2, or the chain's word before, now leads to this segment for the chain's word `place`. It still is that word:
     /// who doesn't ask goes on along the chain.
-    fn divert(&mut self, place: u16, segno: u16) {
+    pub(crate) fn divert(&mut self, place: u16, segno: u16) {
         if place == 0 {
             self.registers.pr[2].segno = segno;
         } else {
@@ -170,7 +173,7 @@ impl Image {
         }
     }
 
-    fn with(mut self, change: impl FnOnce(&mut Image)) -> Image {
+    pub(crate) fn with(mut self, change: impl FnOnce(&mut Image)) -> Image {
         change(&mut self);
         self
     }
@@ -178,7 +181,7 @@ impl Image {
 
 /// The ways to fail 11 to 15 for the word `place` in ring 4: number, segment and descriptor. They still say where the
 /// words of `good` are.
-fn unusable(good: Descriptor, place: u16) -> [(u8, u16, Descriptor); 6] {
+pub(crate) fn unusable(good: Descriptor, place: u16) -> [(u8, u16, Descriptor); 6] {
     [
         (11, SEGMENTS, good),
         (12, BAD, Descriptor { v: false, ..good }),
@@ -278,7 +281,7 @@ fn too_many(cases: &mut Cases) {
 const LEADING: [u16; 6] = [0, 1, 2, 3, 63, 64];
 
 /// Chains that lead to a word of a segment, in place of TARGET's word 3; without one, PR2 leads there.
-fn leading_to(ring: u8, opcode: u8, words: u16, to: Pointer) -> Image {
+pub(crate) fn leading_to(ring: u8, opcode: u8, words: u16, to: Pointer) -> Image {
     machine(ring, opcode, words).with(|m| {
         if words == 0 {
             m.registers.pr[2] = Pointer { ring: to.ring.max(ring), ..to };
@@ -344,7 +347,7 @@ fn by_use(cases: &mut Cases) {
             let machine = leading_to(ring, opcode, words, pointer(tpr_ring, TARGET, 3)).with(|m| {
                 m.describe(TARGET, descriptor);
                 // 34: a descriptor segment that ends after memory.
-                m.memory[115] = 128 | 1 << 24;
+                m.memory[115] = u64::from(WORDS) | 1 << 24;
             });
             let name = format!("{number} after {words} pointer words, opcode {opcode} in ring {tpr_ring}");
             cases.faults(name, machine, (number, pointer(tpr_ring, TARGET, 3)), u64::from(words));
@@ -360,7 +363,7 @@ fn completed(cases: &mut Cases) {
         for opcode in [1, 2, 3, 4, 5, 6, 7, 8, 9, EAP, SPP, TMI, LDBR] {
             // What LDBR reads: DBR as it is.
             let to = pointer(0, TARGET, 3);
-            let machine = leading_to(0, opcode, words, to).with(|m| m.memory[115] = u64::from(SEGMENTS) << 24);
+            let machine = leading_to(0, opcode, words, to).with(|m| m.memory[115] = 4 | 8 << 24);
             cases.completes(format!("opcode {opcode}, {words} pointer words"), machine, next, count);
         }
         for opcode in [TRA, TZE, CALL, RETURN] {
@@ -383,11 +386,11 @@ fn none_read(cases: &mut Cases) {
     let chain = |ring, opcode| machine(ring, opcode, 3);
     cases.completes("LDI with I on".to_string(), chain(4, LDI), pointer(4, CODE, 1), 0);
     cases.run("HLT with I on".to_string(), chain(0, HLT), &[(pointer(0, CODE, 1), 0)], End::Halted);
-    for opcode in [0, 11, 42, 44, 255] {
+    for opcode in [0, 11, 43, 44, 255] {
         let at = pointer(0, CODE, 0);
         cases.faults(format!("32 with I on, opcode {opcode}"), chain(0, opcode), (32, at), 0);
     }
-    for opcode in [LDBR, HLT] {
+    for opcode in [LDBR, HLT, RCU] {
         let at = pointer(4, CODE, 0);
         cases.faults(format!("33 with I on, opcode {opcode}"), chain(4, opcode), (33, at), 0);
     }
@@ -409,7 +412,7 @@ fn none_read(cases: &mut Cases) {
         (2, |m| m.registers.pr[0].ring = 8),
         (3, |m| m.registers.pr[0].ring = 3),
         (4, |m| m.registers.dbr.length = 4_097),
-        (4, |m| m.registers.dbr.address = 121),
+        (4, |m| m.registers.dbr.address = WORDS - 7),
     ];
     for (number, change) in refused {
         cases.run(format!("refused {number}"), chain(4, LDA).with(change), &[], End::Refused(number));

@@ -104,6 +104,11 @@ impl Dbr {
     pub fn from_word(word: u64) -> Self {
         Dbr { address: bits(word, 0, 23) as u32, length: bits(word, 24, 36) as u16 }
     }
+
+    /// The word of fields that are in their ranges.
+    pub fn to_word(self) -> u64 {
+        u64::from(self.address) | u64::from(self.length) << 24
+    }
 }
 
 #[derive(Clone, Copy, Debug, Default, PartialEq, Eq)]
@@ -142,7 +147,7 @@ impl Instruction {
     }
 }
 
-/// The opcodes of the table.
+/// The opcodes of the table; Rcu restores the control unit from a frame.
 #[derive(Clone, Copy, Debug, PartialEq, Eq)]
 pub enum Opcode {
     Lda,
@@ -164,11 +169,12 @@ pub enum Opcode {
     Return,
     Ldbr,
     Hlt,
+    Rcu,
 }
 
 impl Opcode {
     /// The table, by number.
-    pub const TABLE: [(u8, Opcode); 19] = [
+    pub const TABLE: [(u8, Opcode); 20] = [
         (1, Opcode::Lda),
         (2, Opcode::Sta),
         (3, Opcode::Ada),
@@ -188,6 +194,7 @@ impl Opcode {
         (33, Opcode::Return),
         (40, Opcode::Ldbr),
         (41, Opcode::Hlt),
+        (42, Opcode::Rcu),
     ];
 
     pub fn from_number(number: u8) -> Option<Opcode> {
@@ -204,6 +211,6 @@ impl Opcode {
     }
 
     pub fn is_privileged(self) -> bool {
-        matches!(self, Opcode::Ldbr | Opcode::Hlt)
+        matches!(self, Opcode::Ldbr | Opcode::Hlt | Opcode::Rcu)
     }
 }

@@ -1,5 +1,6 @@
-/* kuzhlemor_bench as the firmware calls it: texts worked out by hand, with their pointer words, 45 at its bound, what stays of
- * the buffer, 51 of every address, and random, cut and damaged images against plain C, byte for byte. */
+/* kuzhlemor_bench as the firmware calls it: texts worked out by hand, with their pointer words and delivered faults, 45 at its
+ * bound, what stays of the buffer, ST's last fields, 51 of every address, and random, cut and damaged images against plain C,
+ * byte for byte. */
 #include "images.h"
 #include "machine.h"
 
@@ -109,6 +110,67 @@ static void long_listing(void)
         size += (size_t)sprintf(text + size, "%u 0 3 %s\n", k + 1, ends[k % 3]);
     size += (size_t)sprintf(text + size, "spent %u %u\n", (unsigned)LONG, LONG / 3 * 67);
     expect("a long listing", chains(near(TRA, -2), LONG), 64 * (LONG + 1), (int64_t)size, text);
+}
+
+/* Ring 4's program reads two pointer words and a third in no segment; the handler in segment 1 goes back by opcode 42, through
+ * one of its own, to an instruction in no table. Segment 2 is the save segment, segment 3 the program and its pointer words. */
+static size_t delivered(uint16_t save_length, uint16_t fault_switch, uint32_t budget)
+{
+    machine m = empty_machine(64);
+
+    m.registers.dbr = (kuzhlemor_dbr){0, 4};
+    m.registers.ipr = pointer_to(4, 3, 0);
+    for (int k = 0; k < 8; k++)
+        m.registers.prs[k].ring = 4;
+    m.registers.fault_switch = fault_switch;
+    m.registers.save_segment = 2;
+    m.registers.handler_segment = 1;
+    m.memory[1] = descriptor_word(8, 4, 0, 0, 0, R | E | V, 0);
+    m.memory[2] = descriptor_word(16, save_length, 0, 0, 0, R | W | V, 0);
+    m.memory[3] = descriptor_word(32, 16, 4, 4, 4, R | E | V, 0);
+    m.memory[8] = near(AOS, 2) | I_ON;
+    m.memory[9] = near(RCU, 2) | I_ON;
+    m.memory[10] = pointer_word(pointer_to(0, 2, 4));
+    m.memory[11] = pointer_word(pointer_to(0, 2, 0));
+    m.memory[32] = near(LDA, 8) | I_ON;
+    m.memory[32 + 8] = pointer_word(pointer_to(4, 3, 9)) | POINTER_I_ON;
+    m.memory[32 + 9] = pointer_word(pointer_to(4, 9, 7)) | POINTER_I_ON;
+    return image_of(&m, budget);
+}
+
+/* A delivered fault has a step's line, with its pointer words, which are in the total. */
+static void delivered_faults(void)
+{
+    static const char text[] = "1 0 1 0 2\n2 0 1 1 1\n3 4 3 1 1\n4 0 1 0 0\n5 0 1 1 1\n6 4 3 2 1\nspent 6 6\n";
+
+    expect("delivered, budget 1", delivered(13, 1, 1), 128, 20, "1 0 1 0 2\nspent 1 2\n");
+    expect("delivered twice", delivered(13, 1, 6), 448, 70, text);
+    expect("delivered, the switch off", delivered(13, 0, 6), 448, 19, "fault 11 0 4 9 7 0\n");
+    expect("delivered, twelve words", delivered(12, 1, 6), 448, 19, "fault 11 0 4 9 7 0\n");
+}
+
+/* 2 of ST's last five bytes, and an ST without them. */
+static void last_fields(void)
+{
+    const size_t at = 6 + STORED_ST_SIZE;
+    size_t length = delivered(13, 1, 6);
+
+    for (unsigned value = 2; value < 256; value++) {
+        image[at] = (uint8_t)value;
+        expect("a switch above 1", length, 448, -2, "");
+    }
+    for (size_t field = at + 1; field <= at + 3; field += 2) {
+        length = delivered(13, 0, 0);
+        put_number(image + field, 4095, 2);
+        expect("segment 4,095", length, 64, 10, "spent 0 0\n");
+        put_number(image + field, 4096, 2);
+        expect("segment 4,096", length, 64, -2, "");
+        put_number(image + field, 65535, 2);
+        expect("segment 65,535", length, 64, -2, "");
+    }
+    length = delivered(13, 0, 0);
+    memmove(image + at, image + at + 5, length - at - 5);
+    expect("a stored image", length - 5, 64, -41, "");
 }
 
 static void refusals(void)
@@ -228,10 +290,11 @@ static void compare(size_t length, size_t room)
 /* Puts one more WD before RN, for the address of a WD that is there or for any of a few. */
 static void write_again(size_t rn, uint32_t budget)
 {
+    const size_t first = 6 + ST_SIZE;
     uint32_t address = random_below(CAPACITY);
 
-    if (rn > 67 && random_below(2) == 0)
-        address = (uint32_t)number_at(image + 67 + 14 * (size_t)random_below((uint32_t)(rn - 67) / 14) + 2, 4);
+    if (rn > first && random_below(2) == 0)
+        address = (uint32_t)number_at(image + first + 14 * (size_t)random_below((uint32_t)(rn - first) / 14) + 2, 4);
     put_rn(put_wd(image + rn, address, 0), budget);
 }
 
@@ -277,6 +340,8 @@ int main(void)
     case_12_whole();
     pointer_words();
     long_listing();
+    delivered_faults();
+    last_fields();
     refusals();
     words_written_twice();
     every_address();

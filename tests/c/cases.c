@@ -1,5 +1,6 @@
-/* Single steps of document 01: every opcode, every question with the values at its edge, the cases of 01 that are
- * steps, the order of the questions, and how many pointer words each step reads. */
+/* Single steps of document 01 with 02's delivered faults: every opcode, every question with the values at its edge, the cases
+ * of 01 that are steps, the order of the questions, how many pointer words each step reads, and what a fault leaves where it
+ * is delivered. */
 #include "machine.h"
 
 #include <stdio.h>
@@ -20,6 +21,15 @@ enum {
 
 static expectation *report;
 
+/* The numbers of the faults that were delivered. */
+static bool delivered_numbers[53];
+
+/* Segment 5 of the desk, which has room for a frame. */
+static uint64_t data_segment(void)
+{
+    return descriptor_word(DATA_AT, 16, 7, 7, 7, R | W | V, 0);
+}
+
 /* The program is in segment 4, at word 2; PR1 points to word 0 of segment 5, which all rings may read and write, PR2 to
  * word 0 of segment 6, which is void at first. The other PRs are all different. */
 static machine desk(unsigned ring, uint64_t instruction)
@@ -34,17 +44,40 @@ static machine desk(unsigned ring, uint64_t instruction)
     m.registers.prs[1] = pointer_to(ring, DATA, 0);
     m.registers.prs[2] = pointer_to(ring, OTHER, 0);
     m.memory[CODE] = descriptor_word(CODE_AT, 16, ring, ring, ring, R | E | V, 0);
-    m.memory[DATA] = descriptor_word(DATA_AT, 16, 7, 7, 7, R | W | V, 0);
+    m.registers.save_segment = 4094;
+    m.registers.handler_segment = 4093;
+    m.memory[DATA] = data_segment();
     for (unsigned k = 8; k < WORDS; k++)
         m.memory[k] = 0xfedc000000000000 + k;
     m.memory[CODE_AT + 2] = instruction;
     return m;
 }
 
-/* Completes, having read so many pointer words. */
+/* The switch is on, with these segments. */
+static machine switched_on(machine m, unsigned save, unsigned handler)
+{
+    m.registers.fault_switch = 1;
+    m.registers.save_segment = (uint16_t)save;
+    m.registers.handler_segment = (uint16_t)handler;
+    return m;
+}
+
+static void report_on(const char *name, const machine *before, const machine *after, kuzhlemor_reply reply)
+{
+    char text[128];
+
+    snprintf(text, sizeof text, "%s, the switch on", name);
+    report(text, before, after, reply);
+}
+
+/* Completes, having read so many pointer words; with the switch on just so. */
 static void completes_through(const char *name, const machine *before, const machine *after, unsigned pointer_words)
 {
+    machine before_on = switched_on(*before, DATA, 0);
+    machine after_on = switched_on(*after, DATA, 0);
+
     report(name, before, after, spent(1, pointer_words));
+    report_on(name, &before_on, &after_on, spent(1, pointer_words));
 }
 
 /* Completes with IPR one on, A as given, and nothing else changed. */
@@ -96,10 +129,41 @@ static void calls_through(const char *name, machine before, kuzhlemor_pointer ip
     completes_through(name, &before, &after, pointer_words);
 }
 
-/* Faults, having read so many pointer words. */
+/* Completes by delivering a fault: thirteen words from this address on, IPR at the handler, and nothing else changed. */
+static void delivers_through(const char *name, machine before, size_t address, uint32_t number, kuzhlemor_pointer at,
+                             unsigned pointer_words)
+{
+    const kuzhlemor_registers *r = &before.registers;
+    machine after = before;
+    uint64_t *frame = &after.memory[address];
+
+    frame[0] = number;
+    frame[1] = pointer_word(at);
+    frame[2] = r->a;
+    frame[3] = (uint64_t)r->dbr.length << 24 | r->dbr.address;
+    frame[4] = pointer_word(r->ipr);
+    for (int k = 0; k < 8; k++)
+        frame[5 + k] = pointer_word(r->prs[k]);
+    after.registers.ipr = pointer_to(0, r->handler_segment, 0);
+    report_on(name, &before, &after, spent(1, pointer_words));
+    delivered_numbers[number] = true;
+}
+
+static bool has_data_segment(const machine *m)
+{
+    return m->words == WORDS && m->registers.dbr.address == 0 && m->registers.dbr.length > DATA &&
+           m->memory[DATA] == data_segment();
+}
+
+/* Faults, having read so many pointer words; with the switch on as well, unless the save segment will do. */
 static void faults_through(const char *name, machine before, uint32_t number, kuzhlemor_pointer at, unsigned pointer_words)
 {
+    machine no_segment = switched_on(before, 4095, 0);
+
     report(name, &before, &before, fault(number, 0, at, pointer_words));
+    report_on(name, &no_segment, &no_segment, fault(number, 0, at, pointer_words));
+    if (has_data_segment(&before))
+        delivers_through(name, switched_on(before, DATA, 4095), DATA_AT, number, at, pointer_words);
 }
 
 /* The same, with no pointer word read. */
@@ -111,9 +175,13 @@ static void goes_to(const char *name, machine m, kuzhlemor_pointer ipr) { goes_t
 static void calls(const char *name, machine m, kuzhlemor_pointer ipr) { calls_through(name, m, ipr, 0); }
 static void faults(const char *name, machine m, uint32_t number, kuzhlemor_pointer at) { faults_through(name, m, number, at, 0); }
 
+/* With the switch on too: a refusal is no fault. */
 static void refuses(const char *name, machine before, uint32_t number)
 {
+    machine before_on = switched_on(before, DATA, 0);
+
     report(name, &before, &before, refused(number));
+    report_on(name, &before_on, &before_on, refused(number));
 }
 
 /* A step on the desk of a ring, with a given descriptor for segment 6. */
@@ -678,7 +746,7 @@ static void overlaps(void)
 
 static void opcodes(void)
 {
-    static const unsigned unknown[] = {0, 11, 15, 18, 23, 27, 31, 34, 39, 42, 44, 65, 129, 138, 169, 255};
+    static const unsigned unknown[] = {0, 11, 15, 18, 23, 27, 31, 34, 39, 43, 44, 65, 129, 138, 169, 255};
     machine m;
     machine after;
     char name[64];
@@ -705,6 +773,8 @@ static void opcodes(void)
     faults("HLT in ring 7", desk(7, near(HLT, 0)), 33, pointer_to(7, CODE, 2));
     faults("LDBR in ring 1", desk(1, by_pr(LDBR, 1, 0)), 33, pointer_to(1, CODE, 2));
     faults("33 before the address is formed", desk(1, by_pr(LDBR, 3, 0) | I_ON), 33, pointer_to(1, CODE, 2));
+    faults("RCU in ring 1", desk(1, by_pr(RCU, 1, 0)), 33, pointer_to(1, CODE, 2));
+    faults("RCU in ring 7, before the address is formed", desk(7, by_pr(RCU, 3, 0) | I_ON), 33, pointer_to(7, CODE, 2));
 }
 
 /* LDBR of a word, in ring 0. */
@@ -745,6 +815,257 @@ static void descriptor_base(void)
     m.registers.prs[1].ring = 5;
     m.memory[DATA] = descriptor_word(DATA_AT, 16, 0, 4, 4, R | V, 0);
     faults("LDBR reads in TPR's ring", m, 22, pointer_to(5, DATA, 3));
+}
+
+/* A frame whose words are all different, for the desk of ring 0. Its first two words and the bits that belong to no field are
+ * full. */
+static void put_frame(machine *m, size_t address)
+{
+    const uint64_t unused = 0xffffffff80000000;
+    uint64_t *frame = &m->memory[address];
+
+    frame[0] = UINT64_MAX;
+    frame[1] = UINT64_MAX;
+    frame[2] = 0x8877665544332211;
+    frame[3] = dbr_word(40, 20) | 0xffffffe000000000;
+    frame[4] = pointer_word(pointer_to(3, 77, 65535)) | unused;
+    for (unsigned k = 0; k < 8; k++)
+        frame[5 + k] = pointer_word(pointer_to(3 + k % 5, 4095 - k, 100 + k)) | unused;
+}
+
+/* Opcode 42 of a frame at this word of segment 5. */
+static machine restore(int word)
+{
+    machine m = desk(0, by_pr(RCU, 1, word));
+
+    put_frame(&m, (size_t)(DATA_AT + word));
+    return m;
+}
+
+/* Completes with that frame's registers; IPR isn't advanced. */
+static void takes_up(const char *name, machine before, unsigned pointer_words)
+{
+    machine after = before;
+    kuzhlemor_registers *r = &after.registers;
+
+    r->a = 0x8877665544332211;
+    r->dbr = (kuzhlemor_dbr){40, 20};
+    r->ipr = pointer_to(3, 77, 65535);
+    for (unsigned k = 0; k < 8; k++)
+        r->prs[k] = pointer_to(3 + k % 5, 4095 - k, 100 + k);
+    completes_through(name, &before, &after, pointer_words);
+}
+
+static void taken_frames(void)
+{
+    machine m;
+
+    takes_up("RCU", restore(0), 0);
+    takes_up("RCU of the segment's last thirteen words", restore(3), 0);
+    m = restore(0);
+    m.memory[DATA] = descriptor_word(DATA_AT, 13, 0, 0, 0, R | V, 0);
+    takes_up("RCU, a segment of thirteen words, W off", m, 0);
+    m.registers.prs[1].ring = 5;
+    m.memory[DATA] = descriptor_word(DATA_AT, 16, 0, 5, 5, R | V, 0);
+    takes_up("RCU by a pointer of an outer ring", m, 0);
+    m = by_three(0, by_pr(RCU, 0, 0), 0, pointer_to(0, DATA, 1));
+    put_frame(&m, DATA_AT + 1);
+    takes_up("RCU after three pointer words", m, 3);
+    m = with_other(0, by_pr(RCU, 2, 0), descriptor_word(CODE_AT + 2, 13, 7, 7, 7, R | V, 0));
+    put_frame(&m, CODE_AT + 2);
+    m.memory[CODE_AT + 2] = by_pr(RCU, 2, 0);
+    takes_up("RCU in its own frame", m, 0);
+}
+
+/* 15 is asked of all thirteen words, then 22. */
+static void cut_frames(void)
+{
+    machine m;
+
+    for (unsigned word = 4; word <= 16; word++) {
+        m = desk(0, by_pr(RCU, 1, (int)word));
+        faults("RCU past the segment's end", m, 15, pointer_to(0, DATA, word));
+    }
+    m = restore(0);
+    m.registers.prs[1].word = 65535;
+    faults("RCU at word 65,535: it doesn't go round", m, 15, pointer_to(0, DATA, 65535));
+    m = restore(0);
+    m.memory[DATA] = descriptor_word(DATA_AT, 12, 7, 7, 7, R | W | V, 0);
+    faults("RCU, a segment of twelve words", m, 15, pointer_to(0, DATA, 0));
+    m.memory[DATA] = descriptor_word(DATA_AT, 12, 7, 7, 7, W | V, 0);
+    faults("RCU, 15 before 22", m, 15, pointer_to(0, DATA, 0));
+    m.memory[DATA] = descriptor_word(DATA_AT, 13, 7, 7, 7, W | E | V, 0);
+    faults("RCU, 22: R off", m, 22, pointer_to(0, DATA, 0));
+    m.memory[DATA] = descriptor_word(DATA_AT, 16, 0, 4, 4, R | V, 0);
+    m.registers.prs[1].ring = 5;
+    faults("RCU, 22: TPR's ring above R2", m, 22, pointer_to(5, DATA, 0));
+
+    m = with_other(0, by_pr(RCU, 2, 1), 0);
+    faults("RCU, 12", m, 12, pointer_to(0, OTHER, 1));
+    m.memory[OTHER] = descriptor_word(OTHER_AT, 16, 5, 4, 4, R | V, 0);
+    faults("RCU, 13", m, 13, pointer_to(0, OTHER, 1));
+    m.memory[OTHER] = descriptor_word(OTHER_AT, WORDS, 4, 4, 4, R | V, 0);
+    faults("RCU, 14", m, 14, pointer_to(0, OTHER, 1));
+    m.registers.prs[2].segment = 8;
+    faults("RCU, 11", m, 11, pointer_to(0, 8, 1));
+}
+
+/* 34, then 52. */
+static void wrong_frames(void)
+{
+    machine m;
+    char name[64];
+
+    m = restore(2);
+    m.memory[DATA_AT + 2 + 3] = dbr_word(40, WORDS - 39);
+    faults("RCU, 34: one past the end of memory", m, 34, pointer_to(0, DATA, 2));
+    m.memory[DATA_AT + 2 + 3] = dbr_word(0, 4097);
+    faults("RCU, 34: length 4,097", m, 34, pointer_to(0, DATA, 2));
+    m.memory[DATA_AT + 2 + 5] = 0;
+    faults("RCU, 34 before 52", m, 34, pointer_to(0, DATA, 2));
+    m.memory[DATA] = descriptor_word(DATA_AT, 16, 7, 7, 7, W | V, 0);
+    faults("RCU, 22 before 34", m, 22, pointer_to(0, DATA, 2));
+    for (unsigned k = 0; k < 8; k++) {
+        m = restore(2);
+        m.memory[DATA_AT + 2 + 5 + k] = pointer_word(pointer_to(2, 0, 0));
+        snprintf(name, sizeof name, "RCU, 52: PR%u below IPR", k);
+        faults(name, m, 52, pointer_to(0, DATA, 2));
+    }
+    m = by_three(0, by_pr(RCU, 0, 0), 0, pointer_to(0, DATA, 0));
+    put_frame(&m, DATA_AT);
+    m.memory[DATA_AT + 4] = pointer_word(pointer_to(4, 77, 88));
+    faults_through("52 after three pointer words", m, 52, pointer_to(0, DATA, 0), 3);
+    m.memory[DATA_AT + 3] = dbr_word(WORDS, 1);
+    faults_through("RCU, 34 after three pointer words", m, 34, pointer_to(0, DATA, 0), 3);
+    m = by_chain(desk(0, by_pr(RCU, 0, 0) | I_ON), 2, pointer_word(pointer_to(0, DATA, 4)));
+    faults_through("RCU, 15 after two pointer words", m, 15, pointer_to(0, DATA, 4), 2);
+}
+
+/* A store by ring 3 above the write bracket, worked out word by word. */
+static void frame_by_hand(void)
+{
+    static const uint64_t frame[] = {
+        23, 0x30060001, 0x1122334455667788, 0x8000000, 0x30040002, 0x33e807d0, 0x30050000,
+        0x30060000, 0x33eb07d3, 0x33ec07d4, 0x33ed07d5, 0x33ee07d6, 0x33ef07d7,
+    };
+    machine m = with_other(3, by_pr(STA, 2, 1), descriptor_word(OTHER_AT, 16, 2, 2, 2, R | W | V, 0));
+    machine after;
+
+    m = switched_on(m, DATA, 258);
+    after = m;
+    for (int k = 0; k < 13; k++)
+        after.memory[32 + k] = frame[k];
+    after.registers.ipr = pointer_to(0, 258, 0);
+    report("a frame by hand", &m, &after, spent(1, 0));
+}
+
+/* An opcode in no table, with segment 6 as the save segment. */
+static machine save_in(uint64_t descriptor)
+{
+    return switched_on(with_other(7, 0, descriptor), OTHER, 0);
+}
+
+static void delivers(const char *name, uint64_t descriptor, size_t address)
+{
+    delivers_through(name, save_in(descriptor), address, 32, pointer_to(7, CODE, 2), 0);
+}
+
+static void keeps_fault(const char *name, machine before)
+{
+    report(name, &before, &before, fault(32, 0, pointer_to(7, CODE, 2), 0));
+}
+
+/* Each no of the save segment, with the value at its edge. */
+static void save_segments(void)
+{
+    const uint64_t good = descriptor_word(OTHER_AT, 16, 0, 0, 0, W | V, 0);
+    machine m;
+
+    delivers("ring 7 to a segment of ring 0", good, OTHER_AT);
+    m = save_in(good);
+    m.registers.fault_switch = 0;
+    keeps_fault("the switch off", m);
+
+    m = save_in(0);
+    m.memory[7] = good;
+    delivers_through("the last descriptor", switched_on(m, 7, 9), OTHER_AT, 32, pointer_to(7, CODE, 2), 0);
+    m.memory[8] = good;
+    keeps_fault("save segment, 11", switched_on(m, 8, 9));
+    keeps_fault("save segment, 11, the last segment", switched_on(m, 4095, 9));
+    keeps_fault("save segment, 12", save_in(good & ~((uint64_t)V << 49)));
+    keeps_fault("save segment, 13, R1 above R2", save_in(descriptor_word(OTHER_AT, 16, 1, 0, 0, R | W | V, 0)));
+    keeps_fault("save segment, 13, R2 above R3", save_in(descriptor_word(OTHER_AT, 16, 0, 1, 0, R | W | V, 0)));
+    keeps_fault("save segment, 14", save_in(descriptor_word(WORDS - 13, 14, 0, 0, 0, R | W | V, 0)));
+    keeps_fault("save segment, 14, the largest", save_in(descriptor_word(16777215, 65535, 0, 0, 0, R | W | V, 0)));
+    delivers("up to the end of memory", descriptor_word(WORDS - 13, 13, 0, 0, 0, R | W | V, 0), WORDS - 13);
+    keeps_fault("save segment, twelve words", save_in(descriptor_word(OTHER_AT, 12, 0, 0, 0, R | W | V, 0)));
+    keeps_fault("save segment, no words", save_in(descriptor_word(OTHER_AT, 0, 0, 0, 0, R | W | V, 0)));
+    delivers("a longer segment", descriptor_word(8, WORDS - 8, 0, 3, 6, R | W | E | V, 2047), 8);
+    keeps_fault("save segment, W off", save_in(descriptor_word(OTHER_AT, 16, 7, 7, 7, R | E | V, 0)));
+
+    m = save_in(good);
+    m.registers.dbr.length = 5;
+    keeps_fault("save segment, 11 by a short descriptor segment", m);
+    m = save_in(good);
+    for (int k = 0; k < 8; k++)
+        m.memory[64 + k] = m.memory[k];
+    m.registers.dbr = (kuzhlemor_dbr){64, 7};
+    m.memory[OTHER] = 0;
+    delivers_through("descriptors elsewhere", m, OTHER_AT, 32, pointer_to(7, CODE, 2), 0);
+}
+
+/* The frame may lie over descriptors, the program and what was just read. */
+static void frames_over_words(void)
+{
+    machine m;
+
+    delivers("a frame over the descriptors", descriptor_word(0, 16, 0, 0, 0, W | V, 0), 0);
+    delivers("a frame over the program", descriptor_word(CODE_AT - 2, 14, 0, 0, 0, W | V, 0), CODE_AT - 2);
+    m = by_three(4, by_pr(LDA, 0, 0), descriptor_word(CHAIN_AT - 1, 13, 0, 0, 0, W | V, 0), pointer_to(4, 8, 9));
+    delivers_through("a frame over the chain", switched_on(m, OTHER, 4095), CHAIN_AT - 1, 11, pointer_to(4, 8, 9), 3);
+    m = desk(0, by_pr(RCU, 1, 0));
+    m.memory[DATA_AT + 3] = dbr_word(0, 4097);
+    delivers_through("a frame over a frame", switched_on(m, DATA, DATA), DATA_AT, 34, pointer_to(0, DATA, 0), 0);
+    m = desk(7, near(HLT, 0));
+    for (unsigned k = 0; k < 8; k++)
+        m.registers.prs[k] = pointer_to(7, 4095, 65535);
+    delivers_through("the largest pointers", switched_on(m, DATA, 0), DATA_AT, 33, pointer_to(7, CODE, 2), 0);
+}
+
+/* 2 of the switch and both segments. */
+static void wide_fields(void)
+{
+    static const uint16_t wide[] = {4096, 8191, 65535};
+    static const uint16_t on[] = {2, 3, 256, 65535};
+    const machine start = switched_on(desk(4, near(LDI, 0)), 4095, 4095);
+    machine m;
+    machine after = start;
+
+    after.registers.a = 0;
+    after.registers.ipr.word++;
+    report("switch 1, segments 4,095", &start, &after, spent(1, 0));
+    for (int k = 0; k < 4; k++) {
+        m = start;
+        m.registers.fault_switch = on[k];
+        report("a switch above 1", &m, &m, refused(2));
+        m.memory[CODE_AT + 2] = 0;
+        m.registers.save_segment = DATA;
+        report("a switch above 1 at a fault", &m, &m, refused(2));
+    }
+    for (int k = 0; k < 3; k++) {
+        for (uint16_t fault_switch = 0; fault_switch <= 1; fault_switch++) {
+            m = start;
+            m.registers.fault_switch = fault_switch;
+            m.registers.save_segment = wide[k];
+            report("a wide save segment", &m, &m, refused(2));
+            m = start;
+            m.registers.fault_switch = fault_switch;
+            m.registers.handler_segment = wide[k];
+            report("a wide handler segment", &m, &m, refused(2));
+        }
+    }
+    m.registers.prs[0].ring = 3;
+    report("2 before 3, by the handler segment", &m, &m, refused(2));
 }
 
 static void refusals(void)
@@ -876,6 +1197,16 @@ void each_case(expectation *expect)
     overlaps();
     opcodes();
     descriptor_base();
+    taken_frames();
+    cut_frames();
+    wrong_frames();
+    frame_by_hand();
+    save_segments();
+    frames_over_words();
+    wide_fields();
     refusals();
     case_12_by_steps();
+    for (int number = 0; number <= 52; number++)
+        if (is_fault_number(number))
+            check(delivered_numbers[number], "no case delivers fault %d", number);
 }

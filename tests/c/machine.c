@@ -8,11 +8,11 @@
 #include <string.h>
 
 enum {
-    OPCODES = 19
+    OPCODES = 20
 };
 
 static const enum opcode opcodes[OPCODES] = {
-    LDA, STA, ADA, SBA, ANA, ORA, XRA, CNT, AOS, LDI, EAP, SPP, TRA, TZE, TMI, CALL, RETURN, LDBR, HLT,
+    LDA, STA, ADA, SBA, ANA, ORA, XRA, CNT, AOS, LDI, EAP, SPP, TRA, TZE, TMI, CALL, RETURN, LDBR, HLT, RCU,
 };
 
 unsigned long checks;
@@ -90,7 +90,8 @@ static void print_end(const char *label, const machine *m, kuzhlemor_reply reply
     fputs(", PRs", stderr);
     for (int k = 0; k < 8; k++)
         print_pointer(m->registers.prs[k]);
-    fputs("\n", stderr);
+    fprintf(stderr, ", switch %u, save %u, handler %u\n", m->registers.fault_switch, m->registers.save_segment,
+            m->registers.handler_segment);
 }
 
 void check_end(const char *who, const char *name, const machine *got, kuzhlemor_reply got_reply, const machine *wanted,
@@ -175,7 +176,7 @@ static unsigned larger_of(unsigned x, unsigned y)
 
 /* How a random machine is made: instructions from `code_at`, data from `data_at` to the end of memory. Segments of even
  * number are code, odd ones data. One choice in `odd` is unlikely to work; a pointer word has I off one time in
- * `chain`.
+ * `chain`. PR `frame` mostly points to the save segment's first word, where opcode 42 mostly reads.
  *
  * Random numbers are never drawn in an order that C leaves open, so that every compiler makes the same machines. */
 typedef struct {
@@ -186,6 +187,10 @@ typedef struct {
     unsigned code_at;
     unsigned data_at;
     unsigned ring;
+    unsigned save;
+    unsigned handler;
+    unsigned frame;
+    bool delivers;
 } plan;
 
 /* Small and forward, small and back, or rarely any. */
@@ -276,7 +281,13 @@ static uint64_t random_instruction(const plan *p)
     int offset = (int)random_offset(p);
     uint64_t word = has_pr ? by_pr(opcode, pr, offset) : near(opcode, offset);
 
-    if (p->ring > 0 && opcode >= LDBR && !one_in(p->odd))
+    if (opcode == RCU && !one_in(4))
+        word = by_pr(RCU, p->frame, one_in(8) ? offset : 0);
+    /* A handler that goes on after the instruction that faulted. */
+    if (opcode == AOS && p->delivers && one_in(2))
+        word = by_pr(AOS, p->frame, FRAME_IPR);
+    /* Handlers have ring 0. */
+    if (p->ring > 0 && opcode >= LDBR && !one_in(p->delivers ? 3 : p->odd))
         word = near(LDI, offset);
     if (one_in(has_pr ? 4 : p->odd))
         word |= I_ON;
@@ -308,13 +319,50 @@ static uint64_t random_data(const plan *p)
     }
 }
 
+/* Mostly, the save segment can be written and the handler can be executed in ring 0. */
+static void fit_segments(machine *m, const plan *p)
+{
+    uint64_t *descriptors = &m->memory[m->registers.dbr.address];
+
+    if (p->save < p->segments && !one_in(4))
+        descriptors[p->save] |= (uint64_t)(W | V) << 49;
+    if (p->handler < p->segments && !one_in(4)) {
+        descriptors[p->handler] |= (uint64_t)(E | V) << 49;
+        descriptors[p->handler] &= ~((uint64_t)7 << 40);
+    }
+}
+
+/* A frame where the save segment's words start, if that is among the data: mostly one that can be taken up. */
+static void put_frame(machine *m, const plan *p)
+{
+    uint64_t *descriptors = &m->memory[m->registers.dbr.address];
+    unsigned start = p->save < p->segments ? descriptors[p->save] & 0xffffff : 0;
+    unsigned ring = one_in(4) ? random_below(8) : p->ring;
+    uint64_t *frame;
+
+    if (start < p->data_at || start + FRAME > p->words)
+        return;
+    frame = &m->memory[start];
+    if (!one_in(4))
+        frame[FRAME_DBR] = dbr_word(m->registers.dbr.address, m->registers.dbr.length) | random_word() << 37;
+    for (unsigned k = FRAME_IPR; k < FRAME; k++) {
+        bool code = k == FRAME_IPR || one_in(4);
+        unsigned high = one_in(40) ? random_below(8) : k == FRAME_IPR ? ring : larger_of(ring, random_below(8));
+        unsigned segment = k == FRAME_PRS + p->frame ? p->save : random_segment(p, code);
+        uint64_t ignored = random_word() << 31;
+
+        frame[k] = pointer_word(pointer_to(high, segment, random_below(12))) | ignored;
+    }
+}
+
 /* Makes one of 2 to 4 be answered no, or two of them. */
 static void spoil(machine *m)
 {
     kuzhlemor_registers *r = &m->registers;
     kuzhlemor_pointer *any = one_in(4) ? &r->ipr : &r->prs[random_below(8)];
+    uint16_t *segment = one_in(2) ? &r->save_segment : &r->handler_segment;
 
-    switch (random_below(6)) {
+    switch (random_below(8)) {
     case 0:
         any->ring = (uint8_t)(one_in(2) ? 8 : 8 + random_below(248));
         break;
@@ -330,6 +378,12 @@ static void spoil(machine *m)
         break;
     case 4:
         r->dbr.length = (uint16_t)(one_in(2) ? 4097 : 4097 + random_below(61439));
+        break;
+    case 5:
+        r->fault_switch = (uint16_t)(one_in(2) ? 2 : 2 + random_below(65534));
+        break;
+    case 6:
+        *segment = (uint16_t)(one_in(2) ? 4096 : 4096 + random_below(61440));
         break;
     default:
         r->dbr.address = (uint32_t)(m->words - r->dbr.length + 1 + random_below(3));
@@ -356,6 +410,10 @@ machine random_machine(void)
     p.odd = odds[random_below(4)];
     p.chain = one_in(6) ? 60 : 2;
     p.ring = one_in(3) ? 0 : random_below(8);
+    p.delivers = one_in(2);
+    p.save = random_segment(&p, false);
+    p.handler = random_segment(&p, true);
+    p.frame = 2 + random_below(6);
 
     r->a = one_in(3) ? 0 : one_in(2) ? random_word() : random_below(100);
     r->dbr.address = one_in(8) ? random_below(words - segments + 1) : 0;
@@ -368,10 +426,20 @@ machine random_machine(void)
         r->prs[k].segment = (uint16_t)random_segment(&p, k < 2);
         r->prs[k].word = (uint16_t)(one_in(8) ? random_offset(&p) : random_below(6));
     }
+    if (!one_in(4)) {
+        r->prs[p.frame].segment = (uint16_t)p.save;
+        r->prs[p.frame].word = 0;
+    }
+    r->fault_switch = p.delivers;
+    r->save_segment = (uint16_t)p.save;
+    r->handler_segment = (uint16_t)p.handler;
     for (unsigned k = 0; k < words; k++)
         m.memory[k] = k < p.data_at ? random_instruction(&p) : random_data(&p);
     for (unsigned k = 0; k < segments; k++)
         m.memory[r->dbr.address + k] = random_descriptor(&p, k % 2 == 0);
+    fit_segments(&m, &p);
+    if (one_in(2))
+        put_frame(&m, &p);
     if (one_in(25))
         spoil(&m);
     return m;
@@ -387,6 +455,62 @@ static unsigned opcode_at_ipr(const machine *m)
     return instruction >> 24 & 0xff;
 }
 
+/* The number of the fault that the next step meets, delivered or not; 0 if it meets none. */
+static uint32_t fault_met(const machine *before)
+{
+    machine m = *before;
+    kuzhlemor_reply reply;
+
+    m.registers.fault_switch = 0;
+    reply = step_plain(&m);
+    return reply.kind == KUZHLEMOR_FAULT ? reply.number : 0;
+}
+
+/* What keeps a fault from being delivered: 11 to 14 of the save segment, 15 for too few words, 23 for W off; else 0. */
+static unsigned save_segment_no(const machine *m)
+{
+    const kuzhlemor_registers *r = &m->registers;
+    uint64_t d = r->save_segment < r->dbr.length ? m->memory[r->dbr.address + r->save_segment] : 0;
+    unsigned length = d >> 24 & 0xffff;
+
+    if (r->save_segment >= r->dbr.length)
+        return 11;
+    if ((d >> 49 & V) == 0)
+        return 12;
+    if ((d >> 40 & 7) > (d >> 43 & 7) || (d >> 43 & 7) > (d >> 46 & 7))
+        return 13;
+    if ((d & 0xffffff) + length > m->words)
+        return 14;
+    if (length < 13)
+        return 15;
+    return (d >> 49 & W) == 0 ? 23 : 0;
+}
+
+static void count_fault(tally *t, const machine *before, kuzhlemor_reply reply)
+{
+    t->faults[reply.number]++;
+    t->faults_through[reply.pointer_words]++;
+    if (before->registers.fault_switch != 0) {
+        unsigned no = save_segment_no(before);
+
+        check(no != 0, "fault %" PRIu32 " wasn't delivered", reply.number);
+        t->undelivered[no]++;
+    }
+}
+
+static void count_completed(tally *t, const machine *before, kuzhlemor_reply reply)
+{
+    uint32_t number = fault_met(before);
+
+    t->completed_through[reply.pointer_words]++;
+    if (number == 0) {
+        t->completed[opcode_at_ipr(before)]++;
+        return;
+    }
+    check(before->registers.fault_switch != 0 && save_segment_no(before) == 0, "fault %" PRIu32 " was delivered", number);
+    t->delivered[number]++;
+}
+
 void count_step(tally *t, const machine *before, kuzhlemor_reply reply)
 {
     check(reply.pointer_words <= 64, "a step of %" PRIu64 " pointer words", reply.pointer_words);
@@ -395,14 +519,17 @@ void count_step(tally *t, const machine *before, kuzhlemor_reply reply)
         t->refused[reply.number]++;
         break;
     case KUZHLEMOR_FAULT:
-        t->faults[reply.number]++;
-        t->faults_through[reply.pointer_words]++;
+        count_fault(t, before, reply);
         break;
     default:
-        t->completed[opcode_at_ipr(before)]++;
-        t->completed_through[reply.pointer_words]++;
+        count_completed(t, before, reply);
         break;
     }
+}
+
+bool is_fault_number(int number)
+{
+    return (number >= 11 && number <= 15) || (number >= 21 && number <= 34) || number == 52;
 }
 
 void check_tally(const tally *t)
@@ -411,9 +538,14 @@ void check_tally(const tally *t)
         check(t->completed[opcodes[k]] > 0, "no random machine completed opcode %d", (int)opcodes[k]);
     for (int number = 2; number <= 4; number++)
         check(t->refused[number] > 0, "no random machine was refused by %d", number);
-    for (int number = 11; number <= 34; number++)
-        if (number <= 15 || number >= 21)
+    for (int number = 11; number <= 52; number++)
+        if (is_fault_number(number)) {
             check(t->faults[number] > 0, "no random machine gave fault %d", number);
+            check(t->delivered[number] > 0, "no random machine delivered fault %d", number);
+        }
+    for (int no = 11; no <= 23; no++)
+        if (no <= 15 || no == 23)
+            check(t->undelivered[no] > 0, "no random machine kept a fault by %d of its save segment", no);
     for (int length = 0; length <= 4; length++) {
         check(t->completed_through[length] > 0, "no random machine completed a step of %d pointer words", length);
         check(t->faults_through[length] > 0, "no random machine faulted after %d pointer words", length);

@@ -58,20 +58,28 @@ machine case_12(void);
 machine random_machine(void);
 uint32_t random_below(uint32_t bound);
 
-/* What has been seen of replies, which opcodes have completed, and how many pointer words steps have read. */
+/* What has been seen of replies, which opcodes have completed, which faults were delivered, which no of the save segment kept
+ * one from it (15: too few words, 23: W off), and how many pointer words steps have read. */
 typedef struct {
     unsigned long refused[5];
     unsigned long completed[256];
-    unsigned long faults[35];
+    unsigned long faults[53];
+    unsigned long delivered[53];
+    unsigned long undelivered[24];
     unsigned long completed_through[65];
     unsigned long faults_through[65];
 } tally;
 
-/* Adds a step's reply; `before` is the machine that it started from. */
+/* Whether a number is a fault's: 11 to 15, 21 to 34, 52. */
+bool is_fault_number(int number);
+
+/* Adds a step's reply; `before` is the machine that it started from. With the switch on, it checks that a fault was delivered
+ * if and only if the save segment would do. */
 void count_step(tally *t, const machine *before, kuzhlemor_reply reply);
 
-/* Checks that every opcode has completed, that 2 to 4, 11 to 15 and 21 to 34 have all been answered, and that there were
- * chains of each length up to 4 in completed steps and in faulting ones. */
+/* Checks that every opcode has completed, that 2 to 4 and every fault have been answered, that every fault was delivered and
+ * every no of a save segment kept one, and that there were chains of each length up to 4 in completed steps and in faulting
+ * ones. */
 void check_tally(const tally *t);
 
 #endif

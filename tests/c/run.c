@@ -1,5 +1,5 @@
-/* kuzhlemor_run as the firmware calls it: every case with budgets 0 and 1, how runs end, their pointer words, and random
- * machines against plain C, against single steps, and against the same run in two parts. */
+/* kuzhlemor_run as the firmware calls it: every case with budgets 0 and 1, how runs end, their pointer words, handlers, and
+ * random machines against plain C, against single steps, and against the same run in two parts. */
 #include "machine.h"
 
 #include <stdio.h>
@@ -217,6 +217,169 @@ static void totals(void)
     expect_run("long chains for long", &start, 200000, &end, spent(200000, 6400000));
 }
 
+/* A laboratory's program in ring 4, whose second instruction stores where it may only read. The handler in ring 0 keeps the
+ * fault's number, raises the frame's IPR by one and goes back; it reaches the frame, in segment 1, by pointer words of its own
+ * segment. PR2 points to the laboratory's word. */
+static machine handled(void)
+{
+    machine m = empty_machine(64);
+    uint64_t *handler = &m.memory[24];
+    uint64_t *code = &m.memory[40];
+
+    m.registers.dbr = (kuzhlemor_dbr){0, 6};
+    m.registers.ipr = pointer_to(4, 4, 0);
+    for (unsigned k = 0; k < 8; k++)
+        m.registers.prs[k] = pointer_to(4, 5, k);
+    m.registers.fault_switch = 1;
+    m.registers.save_segment = 1;
+    m.registers.handler_segment = 2;
+    m.memory[1] = descriptor_word(8, 13, 0, 0, 0, R | W | V, 0);
+    m.memory[2] = descriptor_word(24, 8, 0, 0, 0, R | W | E | V, 0);
+    m.memory[4] = descriptor_word(40, 8, 4, 4, 4, R | E | V, 0);
+    m.memory[5] = descriptor_word(48, 8, 3, 4, 4, R | W | V, 0);
+    handler[0] = near(LDA, 5) | I_ON;
+    handler[1] = near(STA, 6);
+    handler[2] = near(AOS, 4) | I_ON;
+    handler[3] = near(RCU, 2) | I_ON;
+    handler[5] = pointer_word(pointer_to(0, 1, 0));
+    handler[6] = pointer_word(pointer_to(0, 1, 4));
+    code[0] = near(LDI, 0) | lit(250);
+    code[1] = by_pr(STA, 2, 0);
+    code[2] = by_pr(ADA, 2, 0);
+    code[3] = near(HLT, 0);
+    m.memory[50] = 9;
+    return m;
+}
+
+/* By each budget, worked out step by step. */
+static void handlers(void)
+{
+    const machine start = handled();
+    machine wanted = start;
+    machine m;
+
+    wanted.registers.a = 250;
+    wanted.registers.ipr.word = 1;
+    expect_run("handled, budget 1", &start, 1, &wanted, spent(1, 0));
+
+    /* The fault: 23 of word 2 of segment 5 in ring 4, at word 1 of segment 4. */
+    wanted.memory[8] = 23;
+    wanted.memory[8 + 1] = 0x40050002;
+    wanted.memory[8 + 2] = 250;
+    wanted.memory[8 + 3] = 0x6000000;
+    wanted.memory[8 + 4] = 0x40040001;
+    for (unsigned k = 0; k < 8; k++)
+        wanted.memory[8 + 5 + k] = 0x40050000 + k;
+    wanted.registers.ipr = pointer_to(0, 2, 0);
+    expect_run("handled, the budget ends with the fault", &start, 2, &wanted, spent(2, 0));
+    m = wanted;
+
+    wanted.registers.a = 23;
+    wanted.registers.ipr.word = 1;
+    expect_run("handled, the next run is the handler's", &m, 1, &wanted, spent(1, 1));
+    wanted.memory[24 + 7] = 23;
+    wanted.registers.ipr.word = 2;
+    expect_run("handled, budget 4", &start, 4, &wanted, spent(4, 1));
+    wanted.memory[8 + 4] = 0x40040002;
+    wanted.registers.ipr.word = 3;
+    expect_run("handled, budget 5", &start, 5, &wanted, spent(5, 2));
+    wanted.registers.a = 250;
+    wanted.registers.ipr = pointer_to(4, 4, 2);
+    expect_run("handled, back by opcode 42", &start, 6, &wanted, spent(6, 3));
+    wanted.registers.a = 259;
+    wanted.registers.ipr.word = 3;
+    expect_run("handled, the program goes on", &start, 7, &wanted, spent(7, 3));
+
+    /* HLT in ring 4 is the next fault: its frame goes over the first one's. */
+    wanted.memory[8] = 33;
+    wanted.memory[8 + 1] = 0x40040003;
+    wanted.memory[8 + 2] = 259;
+    wanted.memory[8 + 4] = 0x40040003;
+    wanted.registers.ipr = pointer_to(0, 2, 0);
+    expect_run("handled, a second fault", &start, 8, &wanted, spent(8, 3));
+    wanted.registers.a = 33;
+    wanted.registers.ipr.word = 1;
+    expect_run("handled, the handler again", &start, 9, &wanted, spent(9, 4));
+}
+
+/* Where the handler can't go on its own fault is delivered, until the budget is spent; where there is no room for the frame the
+ * run ends. */
+static void handlers_that_fault(void)
+{
+    machine start = handled();
+    machine wanted;
+
+    start.registers.handler_segment = 4095;
+    wanted = start;
+    wanted.registers.a = 250;
+    wanted.registers.ipr = pointer_to(0, 4095, 0);
+    wanted.memory[8] = 11;
+    wanted.memory[8 + 1] = 0xfff0000;
+    wanted.memory[8 + 2] = 250;
+    wanted.memory[8 + 3] = 0x6000000;
+    wanted.memory[8 + 4] = 0xfff0000;
+    for (unsigned k = 0; k < 8; k++)
+        wanted.memory[8 + 5 + k] = 0x40050000 + k;
+    expect_run("no handler segment", &start, 3, &wanted, spent(3, 0));
+    expect_run("no handler segment, for long", &start, 100000, &wanted, spent(100000, 0));
+
+    start = handled();
+    start.memory[24 + 2] = near(HLT, 0);
+    wanted = start;
+    wanted.registers.a = 23;
+    wanted.registers.ipr = pointer_to(0, 2, 3);
+    for (unsigned k = 0; k < 8; k++)
+        wanted.memory[8 + 5 + k] = 0x40050000 + k;
+    wanted.memory[8] = wanted.memory[24 + 7] = 23;
+    wanted.memory[8 + 1] = 0x40050002;
+    wanted.memory[8 + 2] = 250;
+    wanted.memory[8 + 3] = 0x6000000;
+    wanted.memory[8 + 4] = 0x40040001;
+    expect_run("HLT in the handler", &start, 9, &wanted, halted(5, 1));
+
+    start = handled();
+    start.memory[1] = descriptor_word(8, 12, 0, 0, 0, R | W | V, 0);
+    wanted = start;
+    wanted.registers.a = 250;
+    wanted.registers.ipr.word = 1;
+    expect_run("a save segment of twelve words", &start, 9, &wanted, fault(23, 1, pointer_to(4, 5, 2), 0));
+}
+
+/* A delivered fault's pointer words are in the total, and the next fetch goes by the descriptors that its frame has written. */
+static void frames_in_runs(void)
+{
+    machine start = chains(by_pr(TRA, 1, 61) | I_ON);
+    machine wanted;
+
+    start.registers.fault_switch = 1;
+    start.registers.save_segment = 2;
+    start.registers.handler_segment = 1;
+    wanted = after_five(&start);
+    wanted.memory[24] = 25;
+    wanted.memory[24 + 1] = 0x20040;
+    wanted.memory[24 + 2] = 5;
+    wanted.memory[24 + 3] = 0x3000000;
+    wanted.memory[24 + 4] = 0x10005;
+    for (int k = 5; k < 13; k++)
+        wanted.memory[24 + k] = k == 6 ? 0x20000 : 0;
+    wanted.registers.ipr.word = 0;
+    expect_run("25 after three pointer words, delivered", &start, 6, &wanted, spent(6, 73));
+
+    /* Words 1 and 2 become no descriptors: V is off. */
+    start.memory[2] = descriptor_word(0, 16, 0, 0, 0, R | W | V, 0);
+    start.memory[8] = 0;
+    wanted = start;
+    wanted.memory[0] = 32;
+    wanted.memory[1] = 0x10000;
+    wanted.memory[2] = 0;
+    wanted.memory[3] = 0x3000000;
+    wanted.memory[4] = 0x10000;
+    for (int k = 5; k < 13; k++)
+        wanted.memory[k] = k == 6 ? 0x20000 : 0;
+    expect_run("a frame over the descriptors", &start, 1, &wanted, spent(1, 0));
+    expect_run("and the next fetch", &start, 9, &wanted, fault(12, 1, pointer_to(0, 1, 0), 0));
+}
+
 /* 1, of 16,777,217 words; one less isn't refused. */
 static void largest_memory(void)
 {
@@ -284,6 +447,19 @@ static kuzhlemor_reply run_in_parts(machine *m, uint32_t j, uint32_t k)
     return reply;
 }
 
+/* Whether a run that ended as `end` would have ended otherwise without the switch: whether it delivered a fault. */
+static bool differs_with_switch_off(const machine *start, uint32_t budget, const machine *end)
+{
+    machine m = *start;
+
+    if (start->registers.fault_switch != 1)
+        return false;
+    m.registers.fault_switch = 0;
+    run_plain(&m, budget);
+    m.registers.fault_switch = 1;
+    return !same_machine(&m, end);
+}
+
 static void random_machines(void)
 {
     unsigned long refusals = 0;
@@ -294,6 +470,7 @@ static void random_machines(void)
     unsigned long chained_halts = 0;
     unsigned long chained_faults = 0;
     unsigned long long_chains = 0;
+    unsigned long delivered_runs = 0;
 
     for (int k = 0; k < MACHINES; k++) {
         machine start = random_machine();
@@ -328,6 +505,7 @@ static void random_machines(void)
         chained_halts += reply.kind == KUZHLEMOR_HALTED && reply.pointer_words > 0;
         chained_faults += reply.kind == KUZHLEMOR_FAULT && reply.pointer_words > 0;
         long_chains += reply.pointer_words > 64;
+        delivered_runs += differs_with_switch_off(&start, budget, &wanted);
     }
     check(refusals > 0, "no random machine was refused");
     check(halts > 0, "no random machine halted with budget left");
@@ -337,6 +515,7 @@ static void random_machines(void)
     check(chained_halts > 0, "no random machine halted after pointer words");
     check(chained_faults > 0, "no random machine faulted after completed steps with pointer words");
     check(long_chains > 0, "no random machine read more pointer words than one step can");
+    check(delivered_runs > MACHINES / 10, "only %lu of the random machines delivered a fault", delivered_runs);
 }
 
 int main(void)
@@ -345,6 +524,9 @@ int main(void)
     case_12_by_budgets();
     ends();
     totals();
+    handlers();
+    handlers_that_fault();
+    frames_in_runs();
     largest_memory();
     random_machines();
     printf("tests/c/run: %lu checks passed\n", checks);

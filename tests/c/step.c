@@ -4,6 +4,7 @@
 
 #include <stdio.h>
 #include <stdlib.h>
+#include <string.h>
 
 enum {
     MACHINES = 400000,
@@ -151,6 +152,53 @@ static void largest_memory(void)
     free(memory);
 }
 
+/* The longest segment: opcode 42 of its last thirteen words, of one word less, and a fault's frame in it. */
+static void longest_segment(void)
+{
+    static uint64_t memory[65535 + 4];
+    static uint64_t wanted_memory[65535 + 4];
+    const size_t words = 65535 + 4;
+    uint64_t *segment = memory + 4;
+    kuzhlemor_registers r = {.a = 7, .dbr = {0, 2}, .ipr = {0, 1, 0}, .prs = {[3] = {0, 1, 65522}}, .save_segment = 1};
+    kuzhlemor_registers wanted = r;
+
+    memory[1] = descriptor_word(4, 65535, 0, 0, 0, R | W | E | V, 0);
+    segment[0] = by_pr(RCU, 3, 0);
+    segment[65522 + 2] = 9;
+    segment[65522 + 3] = dbr_word(1, 1);
+    segment[65522 + 4] = pointer_word(pointer_to(5, 6, 7));
+    for (int k = 0; k < 8; k++)
+        segment[65522 + 5 + k] = pointer_word(pointer_to(5, 6, 7));
+    memcpy(wanted_memory, memory, sizeof memory);
+    wanted.a = 9;
+    wanted.dbr = (kuzhlemor_dbr){1, 1};
+    wanted.ipr = pointer_to(5, 6, 7);
+    for (int k = 0; k < 8; k++)
+        wanted.prs[k] = wanted.ipr;
+    check(same_reply(kuzhlemor_step(&r, memory, words), spent(1, 0)) && same_registers(&r, &wanted) &&
+              memcmp(memory, wanted_memory, sizeof memory) == 0,
+          "RCU of words 65,522 to 65,534");
+
+    r = (kuzhlemor_registers){.a = 7, .dbr = {0, 2}, .ipr = {0, 1, 0}, .prs = {[3] = {0, 1, 65523}}, .save_segment = 1};
+    wanted = r;
+    check(same_reply(kuzhlemor_step(&r, memory, words), fault(15, 0, pointer_to(0, 1, 65523), 0)) &&
+              same_registers(&r, &wanted) && memcmp(memory, wanted_memory, sizeof memory) == 0,
+          "RCU of word 65,535 as well");
+    r.fault_switch = 1;
+    wanted = r;
+    wanted.ipr = pointer_to(0, 0, 0);
+    memset(wanted_memory + 4, 0, 13 * sizeof memory[0]);
+    wanted_memory[4] = 15;
+    wanted_memory[4 + 1] = 0x1fff3;
+    wanted_memory[4 + 2] = 7;
+    wanted_memory[4 + 3] = 0x2000000;
+    wanted_memory[4 + 4] = 0x10000;
+    wanted_memory[4 + 5 + 3] = 0x1fff3;
+    check(same_reply(kuzhlemor_step(&r, memory, words), spent(1, 0)) && same_registers(&r, &wanted) &&
+              memcmp(memory, wanted_memory, sizeof memory) == 0,
+          "RCU of word 65,535 as well, delivered");
+}
+
 /* 4 and 34 where 4,097 descriptors would lie within memory. */
 static void longest_descriptor_segment(void)
 {
@@ -212,6 +260,7 @@ int main(void)
     steps_in_sequence();
     no_words();
     largest_memory();
+    longest_segment();
     longest_descriptor_segment();
     random_machines();
     printf("tests/c/step: %lu checks passed\n", checks);

@@ -1,5 +1,5 @@
 /* For tests/command: large stored images, the converter in plain C, and input in small pieces.
- *   stored make COUNT    writes an image with so many WDs of random addresses
+ *   stored make COUNT    writes a stored image with so many WDs of random addresses
  *   stored convert       as target/bin/convert
  *   stored pieces SIZE   hands on standard input in pieces of this size, with a pause after each */
 #define _POSIX_C_SOURCE 199309L
@@ -43,7 +43,7 @@ static void make(size_t count)
 
     if (image == NULL)
         exit(1);
-    end = put_st(put_me(image, MOST_WORDS), &zero);
+    end = put_stored_st(put_me(image, MOST_WORDS), &zero);
     for (size_t k = 0; k < count; k++) {
         uint32_t address = (uint32_t)(random_word() % MOST_WORDS);
 
@@ -61,14 +61,15 @@ static void convert(void)
     size_t got;
     int64_t answer;
 
-    while (image != NULL && (got = fread(image + length, 1, room - length, stdin)) > 0) {
+    /* ST_GAIN bytes of the block stay room for the conversion. */
+    while (image != NULL && (got = fread(image + length, 1, room - ST_GAIN - length, stdin)) > 0) {
         length += got;
-        if (length == room)
+        if (length == room - ST_GAIN)
             image = realloc(image, room *= 2);
     }
     if (image == NULL)
         exit(1);
-    answer = plain_convert(image, length);
+    answer = plain_convert(image, length + ST_GAIN);
     if (answer < 0)
         printf("refused %d\n", (int)-answer);
     else

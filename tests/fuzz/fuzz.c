@@ -1,6 +1,6 @@
 /* A fuzzer's input compared: the plain C processor, built for coverage, and the library must give the same answer, registers
- * and memory, byte for byte. An input's first byte says whether the rest is an image, which is run and converted, or a
- * register record and a memory. */
+ * and memory, byte for byte. An input's first byte says whether the rest is an image, which is run, and converted and then run,
+ * or a register record and a memory. */
 #include "images.h"
 #include "kuzhlemor.h"
 #include "padding.h"
@@ -16,7 +16,7 @@ enum {
     WORDS = 256,
     BUDGET = 200,
     TEXT = 64 * (BUDGET + 1) + 32,
-    RECORD = 59
+    RECORD = ST_SIZE - 2
 };
 
 static void require(int same, const char *what)
@@ -44,18 +44,23 @@ static void compare_images(const uint8_t *image, size_t length, uint8_t how)
     require(memcmp(x, y, sizeof x) == 0, "a byte of the buffer");
 }
 
-/* An image converted in place, with a byte behind it that must stay. */
-static void compare_conversions(const uint8_t *image, size_t length)
+/* An image converted in place, with room behind it and a byte that must stay; what it becomes is run. */
+static void compare_conversions(const uint8_t *image, size_t length, uint8_t how)
 {
-    uint8_t *x = malloc(length + 1);
-    uint8_t *y = malloc(length + 1);
+    size_t lent = length + ST_GAIN;
+    uint8_t *x = malloc(lent + 1);
+    uint8_t *y = malloc(lent + 1);
+    int64_t plain;
 
     require(x != NULL && y != NULL, "no memory");
+    memset(x, 0xa5, lent + 1);
     memcpy(x, image, length);
-    memcpy(y, image, length);
-    x[length] = y[length] = 0xa5;
-    require(plain_convert(x, length) == kuzhlemor_convert(y, length), "the converter's answer");
-    require(memcmp(x, y, length + 1) == 0, "a byte of the converted image");
+    memcpy(y, x, lent + 1);
+    plain = plain_convert(x, lent);
+    require(plain == kuzhlemor_convert(y, lent), "the converter's answer");
+    require(memcmp(x, y, lent + 1) == 0, "a byte of the converted image");
+    if (plain > 0)
+        compare_images(x, (size_t)plain, how);
     free(x);
     free(y);
 }
@@ -96,7 +101,7 @@ int LLVMFuzzerTestOneInput(const uint8_t *data, size_t size)
         return 0;
     if (data[0] & 1) {
         compare_images(data + 2, size - 2, data[1]);
-        compare_conversions(data + 2, size - 2);
+        compare_conversions(data + 2, size - 2, data[1]);
     } else {
         compare_machines(data + 2, size - 2, data[1]);
     }

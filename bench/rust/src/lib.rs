@@ -22,7 +22,14 @@ pub struct CRegisters {
     dbr: CDbr,
     ipr: CPointer,
     prs: [CPointer; 8],
+    fault_switch: u16,
+    save_segment: u16,
+    handler_segment: u16,
 }
+
+const _: () = assert!(std::mem::size_of::<CRegisters>() == 80);
+const _: () = assert!(std::mem::offset_of!(CRegisters, fault_switch) == 70);
+const _: () = assert!(std::mem::offset_of!(CRegisters, handler_segment) == 74);
 
 #[repr(C)]
 pub struct CReply {
@@ -53,6 +60,9 @@ pub unsafe extern "C" fn rust_run(registers: *mut CRegisters, memory: *mut u64, 
         dbr: Dbr { address: record.dbr.address, length: record.dbr.length },
         ipr: from_c(record.ipr),
         pr: record.prs.map(from_c),
+        fault_switch: record.fault_switch,
+        save_segment: record.save_segment,
+        handler_segment: record.handler_segment,
     };
     let reply = second::run(&mut registers, memory, budget);
     record.a = registers.a;

@@ -12,7 +12,7 @@ use borrow.Author.Tests.{ltb-true}
 use Rattle.model.specs.Words.{Pointer, indirect-in}
 use Rattle.model.specs.Registers.{Dbr, Machine}
 use Rattle.model.specs.Program.{Program, Outcome, faults, execute, descriptor-of, absolute-address, word-at, use-answer, or-fault, unless-fault, ticks}
-use Rattle.model.specs.Questions.{ask, then-ask, segment-questions, use-questions, read-questions}
+use Rattle.model.specs.Questions.{ask, then-ask, segment-questions, word-questions, use-questions, read-questions}
 use Rattle.model.specs.Step.{chain}
 use Rattle.segments.specs.Translation.{descriptor-word, word-through}
 use Rattle.addressing.specs.Address.{Descriptors, by-dbr, lent, segment-answer, word-answer, pointer-answer, pointer-leads, Formed, bad, good, or-bad, read-by, through, as-formed, Walked, Addressed}
@@ -101,7 +101,7 @@ asked-in-turn (suc k) b n x = refl
 
 answer-by-dbr : (m : Machine) (t : Pointer) →
     let b = m .registers .dbr in pointer-answer (b .length) (descriptor-word b (m .memory) (t .segment)) (m .memory) t ≡ use-answer m t (read-questions t)
-unfolding pointer-answer segment-answer word-answer use-answer descriptor-of descriptor-word use-questions segment-questions
+unfolding pointer-answer segment-answer word-answer use-answer descriptor-of descriptor-word use-questions segment-questions word-questions
 answer-by-dbr m t = asked-in-turn _ _ 14 _
 
 chain-lands : (m : Machine) (f : Pointer → Program) (left : ℕ) (i : Bool) (t : Pointer) →

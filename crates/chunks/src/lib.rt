@@ -4,7 +4,7 @@ ghost use Prim.Native.Nat.{_+_, _*_, _/_, _^_, _≤_, _<_};
 ghost use lib.ListN.{length, take};
 ghost use Rattle.model.specs.Questions.{start-questions};
 ghost use Rattle.model.specs.Listing.{step-line, step-lines};
-ghost use Rattle.state.specs.View.{as-machine};
+ghost use Rattle.state.specs.View.{as-machine, as-delivery};
 ghost use Rattle.run.specs.Run.{Reply-within, completed, step-in, noted-steps};
 ghost use Rattle.text.specs.Text.{Put};
 ghost use Rattle.lines.specs.Kept.{Kept};
@@ -12,6 +12,7 @@ ghost use Rattle.chunks.specs.Chunk.{Few, ends-run, ending, Chunk-writte
 use lines::Number;
 use run::Reply;
 use state::Core;
+use state::Delivery;
 
 // Where lines end, whether the last of them ends the listing, and the pointer words of the run so far.
 pub struct Line {
@@ -75,6 +76,7 @@ fn put_steps(text: &mut [u8], at: usize, count: u32, trace: &[u64], steps: u32) 
 
 // A run of at most 256 steps, and the lines of those that it completes.
 fn put_chunk(
+    delivery: Delivery,
     core: Core,
     prs: &mut [u16; 24],
     memory: &mut [u64],
@@ -83,11 +85,12 @@ fn put_chunk(
     text: &mut [u8],
     at: usize,
 ) -> Chunk
-    requires { ⌜ (start-questions (as-machine core (now prs) (now memory)) ≡ 0) × (at + 64 * steps ≤ length (now text)) × (steps ≤ 256) × (count + steps < 2 ^ 32) ⌝ }
-    ensures { λ x. ⌜ Chunk-written (as-machine core (now (prs .entry)) (now (memory .entry))) count steps at (now (text .entry)) x (as-machine (x .core) (now (prs .exit)) (now (memory .exit))) (now (text .exit)) ⌝ }
+    requires { ⌜ (start-questions (as-delivery delivery) (as-machine core (now prs) (now memory)) ≡ 0) × (at + 64 * steps ≤ length (now text)) × (steps ≤ 256) × (count + steps < 2 ^ 32) ⌝ }
+    ensures { λ x. ⌜ Chunk-written (as-delivery delivery) (as-machine core (now (prs .entry)) (now (memory .entry))) count steps at (now (text .entry)) x (as-machine (x .core) (now (prs .exit)) (now (memory .exit))) (now (text .exit)) ⌝ }
 {
     let mut trace: [u64; 256] = [0; 256];
     let y = machine::run(
+        delivery,
         core.a,
         core.dbr.address,
         core.dbr.length,
@@ -138,6 +141,7 @@ fn put_ending(text: &mut [u8], at: usize, count: u32, total: u64, reply: Reply) 
 
 // The lines of a chunk, and the last line where the run ends with it.
 pub fn list_chunk(
+    delivery: Delivery,
     core: Core,
     prs: &mut [u16; 24],
     memory: &mut [u64],
@@ -147,10 +151,10 @@ pub fn list_chunk(
     text: &mut [u8],
     at: usize,
 ) -> Line
-    requires { ⌜ (start-questions (as-machine core (now prs) (now memory)) ≡ 0) × (at + 64 * steps + 64 ≤ length (now text)) × (steps ≤ 256) × (count + steps < 2 ^ 32) × (total ≤ 64 * count) ⌝ }
-    ensures { λ x. ⌜ Chunk-listed (as-machine core (now (prs .entry)) (now (memory .entry))) count total steps at (now (text .entry)) x (as-machine (x .core) (now (prs .exit)) (now (memory .exit))) (now (text .exit)) ⌝ }
+    requires { ⌜ (start-questions (as-delivery delivery) (as-machine core (now prs) (now memory)) ≡ 0) × (at + 64 * steps + 64 ≤ length (now text)) × (steps ≤ 256) × (count + steps < 2 ^ 32) × (total ≤ 64 * count) ⌝ }
+    ensures { λ x. ⌜ Chunk-listed (as-delivery delivery) (as-machine core (now (prs .entry)) (now (memory .entry))) count total steps at (now (text .entry)) x (as-machine (x .core) (now (prs .exit)) (now (memory .exit))) (now (text .exit)) ⌝ }
 {
-    let x = put_chunk(core, prs, memory, count, steps, text, at);
+    let x = put_chunk(delivery, core, prs, memory, count, steps, text, at);
     let reply = x.reply;
     let sum = total + x.total;
     let end = put_ending(text, x.length, count, sum, reply);

@@ -10,8 +10,9 @@ use lib.Seq.{take-take, drop-drop, drop-append-add, length-take-le}
 use mir.Syntax.{w64}
 use mir.Val.{Fits}
 use mir.Facts.{fits-le}
-use Rattle.model.specs.Convert.{records, joined, left-over, superseded, last-of-each, compacted}
-use Rattle.buffers.specs.Move.{moved-down}
+use Rattle.model.specs.Convert.{records, joined, left-over, superseded, last-of-each, kept-of}
+use Rattle.model.specs.Image.{stored}
+use Rattle.buffers.specs.Move.{bytes-moved}
 use Rattle.buffers.proofs.MoveLaws.{length-moved, take-moved, drop-moved, part-of-front}
 use Rattle.compaction.specs.declared.front.FrontRecord.{FrontRecord}
 use Rattle.compaction.specs.Front.{written-word, Front-of}
@@ -20,27 +21,27 @@ use Rattle.compaction.specs.Compacted.{Compacted}
 use Rattle.compaction.proofs.LastLaws.{superseded-told, front-in, front-none, front-one, front-length}
 
 -- WHAT IS COMPACTED, record by record
-nothing-compacted : (bs : List ℕ) → records bs ≡ [] → compacted bs ≡ bs
-unfolding compacted left-over last-of-each joined
+nothing-compacted : (bs : List ℕ) → records stored bs ≡ [] → kept-of bs ≡ bs
+unfolding kept-of left-over last-of-each joined
 nothing-compacted bs e = rw e
 
-module _ (x rest : List ℕ) (one : records (x ++ rest) ≡ x ∷ records rest) where
-  same-left-over : left-over (x ++ rest) ≡ left-over rest
+module _ (x rest : List ℕ) (one : records stored (x ++ rest) ≡ x ∷ records stored rest) where
+  same-left-over : left-over stored (x ++ rest) ≡ left-over stored rest
   unfolding left-over joined
   same-left-over =
       ap (λ xs. drop (length (joined xs)) (x ++ rest)) one
-      ∙ ap (λ n. drop n (x ++ rest)) (length-append x (joined (records rest)))
-      ∙ drop-append-add x rest (length (joined (records rest)))
+      ∙ ap (λ n. drop n (x ++ rest)) (length-append x (joined (records stored rest)))
+      ∙ drop-append-add x rest (length (joined (records stored rest)))
 
-  record-dropped : superseded x (records rest) ≡ true → compacted (x ++ rest) ≡ compacted rest
-  unfolding compacted last-of-each joined
+  record-dropped : superseded x (records stored rest) ≡ true → kept-of (x ++ rest) ≡ kept-of rest
+  unfolding kept-of last-of-each joined
   record-dropped s = ap₂ (λ xs l. joined (last-of-each xs) ++ l) one same-left-over ∙ rw s
 
-  record-kept : superseded x (records rest) ≡ false → compacted (x ++ rest) ≡ x ++ compacted rest
-  unfolding compacted last-of-each joined
+  record-kept : superseded x (records stored rest) ≡ false → kept-of (x ++ rest) ≡ x ++ kept-of rest
+  unfolding kept-of last-of-each joined
   record-kept s =
       ap₂ (λ xs l. joined (last-of-each xs) ++ l) one same-left-over
-      ∙ rw s (append-assoc x (joined (last-of-each (records rest))) (left-over rest))
+      ∙ rw s (append-assoc x (joined (last-of-each (records stored rest))) (left-over stored rest))
 
 -- THE WALK: the records before `from` have left the bytes before `to`, and nothing has changed after those.
 -- `places-before`: where the last records stand before those from `from` on are noted
@@ -52,10 +53,10 @@ pub record Compacted-so-far (end : ℕ) (entry last : List ℕ) (from to : ℕ) 
   pub rest-same : drop to buffer ≡ drop to entry
   pub places-before : List ℕ
   pub places-sized : length places-before ≡ 8193
-  pub places : last ≡ last-places from (records (drop from (take end entry))) places-before
-  pub bytes : compacted (take end entry) ≡ take to buffer ++ compacted (drop from (take end entry))
+  pub places : last ≡ last-places from (records stored (drop from (take end entry))) places-before
+  pub bytes : kept-of (take end entry) ≡ take to buffer ++ kept-of (drop from (take end entry))
 
-pub none-compacted : (end : ℕ) (entry last : List ℕ) → end ≤ length entry → last ≡ last-places 0 (records (take end entry)) (replicate 8193 0) →
+pub none-compacted : (end : ℕ) (entry last : List ℕ) → end ≤ length entry → last ≡ last-places 0 (records stored (take end entry)) (replicate 8193 0) →
     Compacted-so-far end entry last 0 0 entry
 none-compacted end entry last h p =
     record {
@@ -103,13 +104,13 @@ module _ {end : ℕ} {entry last : List ℕ} {from to : ℕ} {b : List ℕ} (i :
     pub one-in-buffer : from + r .size ≤ length b
     one-in-buffer = let y = one-within in let z = i .same-length in let h = i .room in omega arith
 
-    module _ (z : r .size ≡ 0) (exit : List ℕ) (moved : exit ≡ moved-down from to (end - from) b) where
+    module _ (z : r .size ≡ 0) (exit : List ℕ) (moved : exit ≡ bytes-moved from to (end - from) b) where
       pub all-compacted : Compacted end entry (to + (end - from)) exit
-      unfolding moved-down
+      unfolding bytes-moved
       all-compacted =
           let h = i .from-within in
           let t = i .to-within in
-          let all : compacted (take end entry) ≡ take to b ++ left =
+          let all : kept-of (take end entry) ≡ take to b ++ left =
           i .bytes ∙ ap (λ xs. take to b ++ xs) (nothing-compacted left (front-none left r f z))
           in
           record {
@@ -131,7 +132,7 @@ module _ {end : ℕ} {entry last : List ℕ} {from to : ℕ} {b : List ℕ} (i :
       abbrev rest : List ℕ
       rest = drop (r .size) left
 
-      records-left : records left ≡ one ∷ records rest
+      records-left : records stored left ≡ one ∷ records stored rest
       records-left = front-one left r f h
 
       rest-is : rest ≡ drop (from + r .size) (take end entry)
@@ -140,23 +141,23 @@ module _ {end : ℕ} {entry last : List ℕ} {from to : ℕ} {b : List ℕ} (i :
       whole : one ++ rest ≡ left
       whole = take-append-drop (r .size) left
 
-      records-whole : records (one ++ rest) ≡ one ∷ records rest
-      records-whole = ap records whole ∙ records-left
+      records-whole : records stored (one ++ rest) ≡ one ∷ records stored rest
+      records-whole = ap (records stored) whole ∙ records-left
 
-      places-now : last ≡ last-places from (one ∷ records rest) (i .places-before)
+      places-now : last ≡ last-places from (one ∷ records stored rest) (i .places-before)
       places-now = i .places ∙ ap (λ xs. last-places from xs (i .places-before)) records-left
 
-      told : superseded one (records rest) ≡ not (eqb (r .word) 8192 || eqb (getD last (r .word) 0) from)
+      told : superseded one (records stored rest) ≡ not (eqb (r .word) 8192 || eqb (getD last (r .word) 0) from)
       told =
-          superseded-told from one (records rest) (i .places-before) (i .places-sized) (let y = front-length left r f in omega arith)
+          superseded-told from one (records stored rest) (i .places-before) (i .places-sized) (let y = front-length left r f in omega arith)
           ∙ ap₂ (λ t w. not (eqb w 8192 || eqb (getD t w 0) from)) (sym places-now) (sym (f .word-is))
 
       -- the places once this record is noted too
-      places-next : last ≡ last-places (from + r .size) (records (drop (from + r .size) (take end entry))) (set (i .places-before) (written-word one) from)
+      places-next : last ≡ last-places (from + r .size) (records stored (drop (from + r .size) (take end entry))) (set (i .places-before) (written-word one) from)
       unfolding last-places
       places-next =
           places-now
-          ∙ ap₂ (λ n xs. last-places (from + n) (records xs) (set (i .places-before) (written-word one) from)) (front-length left r f) rest-is
+          ∙ ap₂ (λ n xs. last-places (from + n) (records stored xs) (set (i .places-before) (written-word one) from)) (front-length left r f) rest-is
 
       module _ (last-here : Bool) (asked : last-here ≡ (eqb (r .word) 8192 || eqb (getD last (r .word) 0) from)) where
         pub one-dropped : last-here ≡ false → Compacted-so-far end entry last (from + r .size) to b
@@ -173,10 +174,10 @@ module _ {end : ℕ} {entry last : List ℕ} {from to : ℕ} {b : List ℕ} (i :
               bytes =
                   i .bytes
                   ∙ ap (λ xs. take to b ++ xs)
-                  (ap compacted (sym whole) ∙ record-dropped one rest records-whole (told ∙ ap not (sym asked ∙ e)) ∙ ap compacted rest-is);
+                  (ap kept-of (sym whole) ∙ record-dropped one rest records-whole (told ∙ ap not (sym asked ∙ e)) ∙ ap kept-of rest-is);
             }
 
-        pub one-kept : last-here ≡ true → (exit : List ℕ) → exit ≡ moved-down from to (r .size) b → Compacted-so-far end entry last (from + r .size) (to + r .size) exit
+        pub one-kept : last-here ≡ true → (exit : List ℕ) → exit ≡ bytes-moved from to (r .size) b → Compacted-so-far end entry last (from + r .size) (to + r .size) exit
         one-kept e exit moved =
             record {
               room = i .room;
@@ -191,9 +192,9 @@ module _ {end : ℕ} {entry last : List ℕ} {from to : ℕ} {b : List ℕ} (i :
               places = places-next;
               bytes =
                   i .bytes
-                  ∙ ap (λ xs. take to b ++ xs) (ap compacted (sym whole) ∙ record-kept one rest records-whole (told ∙ ap not (sym asked ∙ e)))
-                  ∙ sym (append-assoc (take to b) one (compacted rest))
-                  ∙ ap₂ (λ xs ys. xs ++ compacted ys) (sym front-now) rest-is;
+                  ∙ ap (λ xs. take to b ++ xs) (ap kept-of (sym whole) ∙ record-kept one rest records-whole (told ∙ ap not (sym asked ∙ e)))
+                  ∙ sym (append-assoc (take to b) one (kept-of rest))
+                  ∙ ap₂ (λ xs ys. xs ++ kept-of ys) (sym front-now) rest-is;
             }
           where
             below : to ≤ from

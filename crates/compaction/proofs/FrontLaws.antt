@@ -1,6 +1,6 @@
 -- The record at the front of some bytes, by its mark. Assumes nothing.
 use mathlib.Core.Path.{_≡_, refl, sym, _∙_, ap}
-use mathlib.Core.Bool.{false, cond}
+use mathlib.Core.Bool.{true, false, cond}
 use mathlib.Core.List.{List}
 use mathlib.Core.Option.{some}
 use Prim.Native.Nat.{ℕ, _≤_, _<_}
@@ -10,30 +10,31 @@ use lib.ListN.{length, take, drop, take-append-drop}
 use lib.Seq.{length-take-le}
 use borrow.Author.Tests.{le-leb, lt-leb, lt-ltb, le-ltb, eq-eqb}
 use Rattle.model.specs.Image as Image
-use Rattle.model.specs.Image.{mark-of, record-size, number-at}
+use Rattle.model.specs.Image.{stored, mark-of, start-size, record-size, number-at}
 use Rattle.model.specs.Convert.{size-by, front-size, is-word, writes}
 use Rattle.model.proofs.ImageLaws.{record-has-a-mark, number-at-front}
 use Rattle.fields.specs.declared.mark.Mark.{Mark}
 use Rattle.fields.specs.declared.mark.Mark.the-variants.{Memory, Start, Word, Run, Unknown}
 use Rattle.fields.specs.Mark.{as-mark, size-of}
+use Rattle.fields.specs.Rules.{rules-of}
 use Rattle.fields.proofs.MarkLaws.{mark-of-record}
 use Rattle.compaction.specs.Front.{written-word, Front-of}
 
 -- A WHOLE RECORD of a known mark, and the word that it writes
-module _ (k : Image.Mark) (bs : List ℕ) (m : mark-of bs ≡ some k) (whole : record-size k ≤ length bs) where
-  whole-front : record-size k ≡ front-size bs
+module _ (k : Image.Mark) (bs : List ℕ) (m : mark-of bs ≡ some k) (whole : record-size stored k ≤ length bs) where
+  whole-front : record-size stored k ≡ front-size stored bs
   unfolding front-size size-by
   whole-front = sym (rw (m, le-leb _ _ whole))
 
-  mark-same : mark-of (take (record-size k) bs) ≡ some k
-  mark-same = mark-of-record (record-size k) bs (record-has-a-mark k) ∙ m
+  mark-same : mark-of (take (record-size stored k) bs) ≡ some k
+  mark-same = mark-of-record (record-size stored k) bs (record-has-a-mark stored k) ∙ m
 
-  wordless : is-word (some k) ≡ false → Front-of bs (record { size = record-size k; word = 8192 })
+  wordless : is-word (some k) ≡ false → Front-of bs (record { size = record-size stored k; word = 8192 })
   unfolding written-word writes
   wordless e = record { size-is = whole-front; word-is = sym (rw (mark-same, e)); word-within = omega arith }
 
 module _ (k : Mark) (bs : List ℕ) (m : as-mark k ≡ mark-of bs) where
-  nothing : 0 ≡ front-size bs → Front-of bs (record { size = 0; word = 8192 })
+  nothing : 0 ≡ front-size stored bs → Front-of bs (record { size = 0; word = 8192 })
   unfolding written-word writes is-word mark-of Image.marked
   nothing e = record { size-is = e; word-is = refl; word-within = omega arith }
 
@@ -41,12 +42,12 @@ module _ (k : Mark) (bs : List ℕ) (m : as-mark k ≡ mark-of bs) where
   unfolding front-size size-by
   unknown-front e = nothing (rw (← m, e))
 
-  module _ (s : ℕ) (sized : s ≡ size-of k) where
+  module _ (s : ℕ) (sized : s ≡ size-of (rules-of true) k) where
     pub short-front : length bs < s → Front-of bs (record { size = 0; word = 8192 })
-    unfolding front-size size-by record-size
-    short-front h = nothing (by-mark k (rw sized at h) ∙ ap (λ x. size-by x (length bs)) m)
+    unfolding front-size size-by start-size record-size rules-of
+    short-front h = nothing (by-mark k (rw sized at h) ∙ ap (λ x. size-by stored x (length bs)) m)
       where
-        by-mark : (k : Mark) → length bs < size-of k → 0 ≡ size-by (as-mark k) (length bs)
+        by-mark : (k : Mark) → length bs < size-of (rules-of true) k → 0 ≡ size-by stored (as-mark k) (length bs)
         by-mark Memory h = sym (rw (lt-leb _ _ h))
         by-mark Start h = sym (rw (lt-leb _ _ h))
         by-mark Word h = sym (rw (lt-leb _ _ h))
@@ -55,15 +56,15 @@ module _ (k : Mark) (bs : List ℕ) (m : as-mark k ≡ mark-of bs) where
 
     module _ (whole : s ≤ length bs) where
       pub me-front : k ≡ Memory → Front-of bs (record { size = s; word = 8192 })
-      unfolding is-word record-size
+      unfolding is-word start-size record-size rules-of
       me-front e = rw (sized, e) (wordless Image.ME bs (rw e at (sym m)) (rw (sized, e) at whole) refl)
 
       pub st-front : k ≡ Start → Front-of bs (record { size = s; word = 8192 })
-      unfolding is-word record-size
+      unfolding is-word start-size record-size rules-of
       st-front e = rw (sized, e) (wordless Image.ST bs (rw e at (sym m)) (rw (sized, e) at whole) refl)
 
       pub rn-front : k ≡ Run → Front-of bs (record { size = s; word = 8192 })
-      unfolding is-word record-size
+      unfolding is-word start-size record-size rules-of
       rn-front e = rw (sized, e) (wordless Image.RN bs (rw e at (sym m)) (rw (sized, e) at whole) refl)
 
       module _ (e : k ≡ Word) (a : ℕ) (at : a ≡ number-at 2 4 bs) where
@@ -71,7 +72,7 @@ module _ (k : Mark) (bs : List ℕ) (m : as-mark k ≡ mark-of bs) where
         wd-mark = sym m ∙ ap as-mark e
 
         wd-size : s ≡ 14
-        wd-size = sized ∙ ap size-of e
+        wd-size = sized ∙ ap (size-of (rules-of true)) e
 
         address : number-at 2 4 (take 14 bs) ≡ a
         address =
@@ -94,7 +95,7 @@ module _ (k : Mark) (bs : List ℕ) (m : as-mark k ≡ mark-of bs) where
         pub wd-above : 8192 ≤ a → Front-of bs (record { size = s; word = 8192 })
         wd-above h = word-front 8192 (rw (le-ltb a 8192 h)) (omega arith)
 
-pub wd-whole : (k : Mark) (s : ℕ) (bs : List ℕ) → s ≡ size-of k → k ≡ Word → s ≤ length bs → 6 ≤ length bs
-wd-whole k s bs sized e whole = let z : s ≡ 14 = sized ∙ ap size-of e in omega arith
+pub wd-whole : (k : Mark) (s : ℕ) (bs : List ℕ) → s ≡ size-of (rules-of true) k → k ≡ Word → s ≤ length bs → 6 ≤ length bs
+wd-whole k s bs sized e whole = let z : s ≡ 14 = sized ∙ ap (size-of (rules-of true)) e in omega arith
 
 pub ruleset fronts = (unknown-front, short-front, me-front, st-front, rn-front, wd-front, wd-above, wd-whole)

@@ -12,7 +12,7 @@ use borrow.Author.Tests.{ltb-true, eqb-true, eq-eqb, ne-eqb}
 use mir.Syntax.{w64}
 use mir.Val.{Fits}
 use mir.Facts.{fits-le}
-use Rattle.model.specs.Image.{mark-of, number-at}
+use Rattle.model.specs.Image.{stored, mark-of, number-at}
 use Rattle.model.specs.Convert.{records, is-word, writes, some-writes, superseded}
 use Rattle.model.proofs.BranchLaws.{cond-holds, and-left, and-right}
 use Rattle.model.proofs.CutLaws.{front-within, no-record, one-record}
@@ -109,13 +109,13 @@ module _ (at : ℕ) (x : List ℕ) (xs : List (List ℕ)) (t : List ℕ) (sized 
 -- THE RECORD AT THE FRONT
 module _ (bs : List ℕ) (r : FrontRecord) (f : Front-of bs r) where
   pub front-in : r .size ≤ length bs
-  front-in = let y = front-within bs in let z = f .size-is in omega arith
+  front-in = let y = front-within stored bs in let z = f .size-is in omega arith
 
-  pub front-none : r .size ≡ 0 → records bs ≡ []
-  front-none e = no-record bs (sym (f .size-is) ∙ e)
+  pub front-none : r .size ≡ 0 → records stored bs ≡ []
+  front-none e = no-record stored bs (sym (f .size-is) ∙ e)
 
-  pub front-one : (r .size ≡ 0 → ⊥) → records bs ≡ take (r .size) bs ∷ records (drop (r .size) bs)
-  front-one h = rw (f .size-is) (one-record bs (let z = f .size-is in omega arith))
+  pub front-one : (r .size ≡ 0 → ⊥) → records stored bs ≡ take (r .size) bs ∷ records stored (drop (r .size) bs)
+  front-one h = rw (f .size-is) (one-record stored bs (let z = f .size-is in omega arith))
 
   pub front-length : length (take (r .size) bs) ≡ r .size
   front-length = length-take-le (r .size) bs front-in
@@ -123,20 +123,20 @@ module _ (bs : List ℕ) (r : FrontRecord) (f : Front-of bs r) where
 -- THE WALK: what the records from `at` on will note, on what is noted so far, is what all note
 pub record Noted-so-far (bs places : List ℕ) (at : ℕ) (places-now : List ℕ) : Type 0 where
   pub in-bytes : at ≤ length bs
-  pub same : last-places at (records (drop at bs)) places-now ≡ last-places 0 (records bs) places
+  pub same : last-places at (records stored (drop at bs)) places-now ≡ last-places 0 (records stored bs) places
 
 pub none-noted : (bs t : List ℕ) → Noted-so-far bs t 0 t
 none-noted bs t = record { in-bytes = omega arith; same = refl }
 
 -- the bytes from `at` on, as a part of a slice
-from-is-drop : (at : ℕ) (bs : List ℕ) → take (length bs - at) (drop at bs) ≡ drop at bs
+pub from-is-drop : (at : ℕ) (bs : List ℕ) → take (length bs - at) (drop at bs) ≡ drop at bs
 from-is-drop at bs = take-all (length bs - at) (drop at bs) (let z = length-drop at bs in omega arith)
 
 module _ {bs places : List ℕ} {at : ℕ} {t : List ℕ} (i : Noted-so-far bs places at t) {r : FrontRecord} (g : Front-of (take (length bs - at) (drop at bs)) r) where
   f : Front-of (drop at bs) r
   f = rw (from-is-drop at bs) at g
 
-  pub all-noted : r .size ≡ 0 → t ≡ last-places 0 (records bs) places
+  pub all-noted : r .size ≡ 0 → t ≡ last-places 0 (records stored bs) places
   unfolding last-places
   all-noted e = ap (λ xs. last-places at xs t) (sym (front-none (drop at bs) r f e)) ∙ i .same
 
@@ -156,8 +156,8 @@ module _ {bs places : List ℕ} {at : ℕ} {t : List ℕ} (i : Noted-so-far bs p
         record {
           in-bytes = next-in-bytes;
           same =
-              ap₂ (λ xs w. last-places (at + r .size) (records xs) (set t w at)) (sym (drop-drop (r .size) at bs)) (f .word-is)
-              ∙ ap (λ n. last-places (at + n) (records (drop (r .size) (drop at bs))) (set t (written-word (take (r .size) (drop at bs))) at)) (sym (front-length (drop at bs) r f))
+              ap₂ (λ xs w. last-places (at + r .size) (records stored xs) (set t w at)) (sym (drop-drop (r .size) at bs)) (f .word-is)
+              ∙ ap (λ n. last-places (at + n) (records stored (drop (r .size) (drop at bs))) (set t (written-word (take (r .size) (drop at bs))) at)) (sym (front-length (drop at bs) r f))
               ∙ ap (λ xs. last-places at xs t) (sym (front-one (drop at bs) r f h))
               ∙ i .same;
         }

@@ -2,3 +2,4 @@
 pub mod FrontLaws
 pub mod LastLaws
 pub mod CompactLaws
+pub mod StartLaws

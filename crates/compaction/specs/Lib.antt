@@ -2,3 +2,4 @@
 pub mod Front
 pub mod Last
 pub mod Compacted
+pub mod Renewed

@@ -3,6 +3,7 @@ ghost use mathlib.Core.Path.{_≡_};
 ghost use Prim.Native.Nat.{_≤_};
 ghost use lib.ListN.{length, take, replicate};
 ghost use Rattle.model.specs.Convert.{records};
+ghost use Rattle.model.specs.Image.{stored};
 ghost use Rattle.compaction.specs.Compacted.{Compacted};
 ghost use Rattle.compaction.specs.Last.{last-places};
 use crate::front::front;
@@ -12,7 +13,7 @@ use buffers::move_down;
 
 // The second walk: what stands at `from` is read as it was, since only bytes before `to` have changed.
 fn keep_last(buffer: &mut [u8], end: usize, last: &[usize; 8193]) -> usize
-    requires { ⌜ (end ≤ length (now buffer)) × (now last ≡ last-places 0 (records (take end (now buffer))) (replicate 8193 0)) ⌝ }
+    requires { ⌜ (end ≤ length (now buffer)) × (now last ≡ last-places 0 (records stored (take end (now buffer))) (replicate 8193 0)) ⌝ }
     ensures { λ n. ⌜ Compacted end (now (buffer .entry)) n (now (buffer .exit)) ⌝ }
 {
     let mut from = 0;

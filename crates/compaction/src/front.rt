@@ -1,4 +1,4 @@
-// The record at the front of some bytes: its size, and the word that it writes.
+// The record at the front of some stored bytes: its size, and the word that it writes.
 ghost use Rattle.compaction.specs.Front.{Front-of};
 use fields::mark::Mark;
 use fields::mark::mark_of;
@@ -19,7 +19,7 @@ pub fn front(bytes: &[u8]) -> FrontRecord
         word: 8192,
     };
     let mark = mark_of(bytes);
-    let size = size_of(mark);
+    let size = size_of(mark, true);
     if bytes.len() < size {
         return nothing;
     }

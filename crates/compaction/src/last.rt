@@ -5,12 +5,13 @@ ghost use Prim.Native.Nat.{_≤_};
 ghost use lib.Dec.{eqb};
 ghost use lib.ListN.{getD};
 ghost use Rattle.model.specs.Convert.{records};
+ghost use Rattle.model.specs.Image.{stored};
 ghost use Rattle.compaction.specs.Last.{last-places};
 use crate::front::front;
 
 // The entry after the words' is for records that write none.
 pub fn note_last(bytes: &[u8], last: &mut [usize; 8193])
-    ensures { λ _. ⌜ now (last .exit) ≡ last-places 0 (records (now (bytes .entry))) (now (last .entry)) ⌝ }
+    ensures { λ _. ⌜ now (last .exit) ≡ last-places 0 (records stored (now (bytes .entry))) (now (last .entry)) ⌝ }
 {
     let mut at = 0;
     loop {

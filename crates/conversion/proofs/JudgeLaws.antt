@@ -1,5 +1,5 @@
 -- 1 to 4 of what an image recorded. Assumes nothing.
-use mathlib.Core.Path.{_≡_, sym, _∙_, ap}
+use mathlib.Core.Path.{_≡_, sym, _∙_, ap₂}
 use mathlib.Core.Bool.{true}
 use mathlib.Core.List.{List}
 use Prim.Native.Nat.{ℕ, _≤_}
@@ -11,7 +11,7 @@ use Rattle.machine.specs.declared.Prepared.{Prepared}
 use Rattle.machine.specs.Answered.{Prepared-as}
 use Rattle.loading.specs.declared.Loading.{Loading}
 use Rattle.loading.specs.View.{as-loading, Loading-within}
-use Rattle.image.proofs.LoadLaws.{words-within, loaded-machine}
+use Rattle.image.proofs.LoadLaws.{words-within, loaded-delivery, loaded-machine}
 
 module _ (l : Loading) (m : List ℕ) (w : Loading-within l m) (h : l .«has_memory» ≡ true) where
   pub memory-part : l .words ≤ length m
@@ -21,7 +21,7 @@ module _ (l : Loading) (m : List ℕ) (w : Loading-within l m) (h : l .«has_mem
   memory-part-size = sym (length-take-le (l .words) m memory-part)
 
   pub judged-by : l .«has_registers» ≡ true → (x : Prepared) (m-now : List ℕ) → Prepared-as (l .registers) (take (l .words) m) x m-now →
-      x .number ≡ start-questions (Image.machine-of (as-loading l m))
-  judged-by g x m-now p = p .asked ∙ ap start-questions (sym (loaded-machine l m h g))
+      x .number ≡ start-questions (as-loading l m .delivery) (Image.machine-of (as-loading l m))
+  judged-by g x m-now p = p .asked ∙ ap₂ start-questions (sym (loaded-delivery l m)) (sym (loaded-machine l m h g))
 
 pub ruleset judges = (memory-part, memory-part-size, judged-by)

@@ -1,7 +1,8 @@
-// A stored image converted, whole or in pieces: its records are judged as loading does, and the last WD of each address is kept.
+// A stored image converted, whole or in pieces: its records are judged as loading does, the last WD of each address is kept, and ST
+// gains five zero bytes.
 ghost use mathlib.Core.Path.{_≡_};
 ghost use mathlib.Core.Bool.{true};
-ghost use Prim.Native.Nat.{_≤_};
+ghost use Prim.Native.Nat.{_+_, _≤_};
 ghost use lib.ListN.{length};
 ghost use Rattle.model.specs.Convert.{convert-call};
 ghost use Rattle.model.specs.Image.{machine-of};
@@ -30,7 +31,7 @@ pub struct Converted {
 // 1 to 4 of what an image recorded.
 fn judge(loading: Loading, store: &mut [u64]) -> u8
     requires { ⌜ Loading-within loading (now store) × (loading .«has_memory» ≡ true) × (loading .«has_registers» ≡ true) ⌝ }
-    ensures { λ n. ⌜ (n ≡ start-questions (machine-of (as-loading loading (now (store .entry))))) × (length (now (store .exit)) ≡ length (now (store .entry))) ⌝ }
+    ensures { λ n. ⌜ (n ≡ start-questions (as-loading loading (now (store .entry)) .delivery) (machine-of (as-loading loading (now (store .entry))))) × (length (now (store .exit)) ≡ length (now (store .entry))) ⌝ }
 {
     let words = loading.words as usize;
     let registers = loading.registers;
@@ -38,7 +39,8 @@ fn judge(loading: Loading, store: &mut [u64]) -> u8
     x.number
 }
 
-// Of the buffer's first `size` bytes those before `kept` are records that were loaded. `ended`: no bytes come after these.
+// Of the buffer's first `size` bytes those before `kept` are records that were loaded, and ST may need five bytes after them all.
+// `ended`: no bytes come after these.
 pub fn convert_piece(
     loading: Loading,
     store: &mut [u64],
@@ -47,7 +49,7 @@ pub fn convert_piece(
     size: usize,
     ended: bool,
 ) -> Converted
-    requires { ⌜ Loading-within loading (now store) × (kept ≤ size) × (size ≤ length (now buffer)) ⌝ }
+    requires { ⌜ Loading-within loading (now store) × (kept ≤ size) × (size + 5 ≤ length (now buffer)) ⌝ }
     ensures { λ x. ⌜ Piece-converted loading (now (store .entry)) (now (buffer .entry)) kept size ended x (now (store .exit)) (now (buffer .exit)) ⌝ }
 {
     let x = image::load::load(loading, store, &buffer[kept..size], ended);
@@ -72,7 +74,7 @@ pub fn convert_piece(
             }
             Converted {
                 loading: after,
-                outcome: ConvertOutcome::Ready(compaction::compact::compact(buffer, size)),
+                outcome: ConvertOutcome::Ready(compaction::renew::renew(buffer, size)),
             }
         }
     }
@@ -88,12 +90,18 @@ pub fn make_room(buffer: &mut [u8], kept: usize, size: usize) -> usize
     n
 }
 
-// A whole image, where it stands.
+// A whole image, where it stands, with five bytes more for ST. Where there are fewer, no byte of an image is there either: 42.
 pub fn convert(image: &mut [u8]) -> Called
     ensures { λ x. ⌜ Called-as (convert-call (now (image .entry))) x (now (image .exit)) ⌝ }
 {
+    if image.len() < 5 {
+        return Called {
+            number: 42,
+            length: 0,
+        };
+    }
     let mut store = loading::empty_store();
-    let size = image.len();
+    let size = image.len() - 5;
     let x = convert_piece(
         loading::nothing_loaded(true),
         &mut store,

@@ -1,7 +1,7 @@
--- What is kept from piece to piece, in a buffer of its size. Assumes nothing: these are definitions.
+-- What is kept from piece to piece, in a buffer of its size with five bytes more for ST. Assumes nothing: these are definitions.
 use mathlib.Core.Path.{_≡_}
 use mathlib.Core.List.{List}
-use Prim.Native.Nat.{ℕ, _≤_}
+use Prim.Native.Nat.{ℕ, _+_, _≤_}
 use lib.ListN.{length}
 use Rattle.loading.specs.declared.Loading.{Loading}
 use Rattle.loading.specs.View.{Loading-within}
@@ -21,22 +21,22 @@ Progress-fits (Ready n) u = n ≤ length u
 
 pub record Room-left (r : Room) (t u : List ℕ) : Type 0 where
   pub kept-within : r .kept ≤ r .size
-  pub size-within : r .size ≤ length u
+  pub size-within : r .size + 5 ≤ length u
   pub size-same : length u ≡ length t
 
 -- a piece's outcome, in the buffer that it left
 abbrev pub Outcome-within : ConvertOutcome → (size : ℕ) → (buffer : List ℕ) → Type 0
 Outcome-within (Convert.Refused n) size u = Unit {0}
-Outcome-within (Convert.More n) size u = (n ≤ size) × (size ≤ length u)
+Outcome-within (Convert.More n) size u = (n ≤ size) × (size + 5 ≤ length u)
 Outcome-within (Convert.Ready n) size u = n ≤ length u
 
 pub record Goes-on (l : Loading) (y : Turn) (buffer : List ℕ) : Type 0 where
   pub loading-same : y .loading ≡ l
   pub kept-within : y .room .kept ≤ y .room .size
-  pub size-within : y .room .size ≤ length buffer
+  pub size-within : y .room .size + 5 ≤ length buffer
   pub fits : Progress-fits (y .progress) buffer
 
 pub record Turn-within (l : Loading) (r : Room) (store buffer : List ℕ) : Type 0 where
   pub within : Loading-within l store
   pub kept-within : r .kept ≤ r .size
-  pub size-within : r .size ≤ length buffer
+  pub size-within : r .size + 5 ≤ length buffer

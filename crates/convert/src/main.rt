@@ -1,12 +1,13 @@
 // The laptop's program for stored images: an old image on standard input, the new one on standard output.
 ghost use mathlib.Core.Path.{_≡_};
-ghost use Prim.Native.Nat.{_≤_};
+ghost use Prim.Native.Nat.{_+_, _≤_};
 ghost use lib.ListN.{length};
 ghost use Rattle.convert.specs.Turn.{Goes-on, Outcome-within, Progress-fits, Room-left, Turn-within};
 use conversion::ConvertOutcome;
 use conversion::Converted;
 use libc::STDOUT_FILENO;
 use loading::Loading;
+use streams::Piece;
 
 enum Progress {
     // The input goes on.
@@ -31,7 +32,7 @@ struct Turn {
     progress: Progress,
 }
 
-// The records that an image keeps take at most 114,755 bytes, and fewer than 61 wait.
+// The records that an image keeps take at most 114,755 bytes, fewer than 61 wait, and ST gains five.
 fn empty_buffer() -> [u8; 524288]
     ensures { λ r. ⌜ 524288 ≡ length r ⌝ }
 {
@@ -40,7 +41,7 @@ fn empty_buffer() -> [u8; 524288]
 
 // Where less than half of the buffer is free, records that later ones supersede are dropped.
 fn with_room(buffer: &mut [u8], kept: usize, size: usize) -> Room
-    requires { ⌜ (kept ≤ size) × (size ≤ length (now buffer)) ⌝ }
+    requires { ⌜ (kept ≤ size) × (size + 5 ≤ length (now buffer)) ⌝ }
     ensures { λ r. ⌜ Room-left r (now (buffer .entry)) (now (buffer .exit)) ⌝ }
 {
     if size <= 262144 {
@@ -55,7 +56,7 @@ fn with_room(buffer: &mut [u8], kept: usize, size: usize) -> Room
 
 // What the outcome of a piece leaves to do.
 fn next_turn(x: Converted, buffer: &mut [u8], size: usize) -> Turn
-    requires { ⌜ Outcome-within (x .outcome) size (now buffer) ⌝ }
+    requires { ⌜ (5 ≤ length (now buffer)) × Outcome-within (x .outcome) size (now buffer) ⌝ }
     ensures { λ y. ⌜ Goes-on (x .loading) y (now (buffer .exit)) ⌝ }
 {
     let loading = x.loading;
@@ -79,13 +80,22 @@ fn next_turn(x: Converted, buffer: &mut [u8], size: usize) -> Turn
     }
 }
 
+// Reads on, but not into the buffer's last five bytes, which are for ST.
+fn read_more(buffer: &mut [u8], size: usize) -> Piece
+    requires { ⌜ size + 5 ≤ length (now buffer) ⌝ }
+    ensures { λ x. ⌜ (size ≤ x .size) × (x .size + 5 ≤ length (now (buffer .exit))) ⌝ }
+{
+    let limit = buffer.len() - 5;
+    streams::read_piece(&mut buffer[..limit], size)
+}
+
 // One piece more, read and converted.
 fn convert_once(loading: Loading, room: Room, store: &mut [u64], buffer: &mut [u8]) -> Turn
     requires { ⌜ Turn-within loading room (now store) (now buffer) ⌝ }
     ensures { λ x. ⌜ Turn-within (x .loading) (x .room) (now (store .exit)) (now (buffer .exit)) × Progress-fits (x .progress) (now (buffer .exit)) ⌝ }
 {
     let kept = room.kept;
-    let piece = streams::read_piece(buffer, room.size);
+    let piece = read_more(buffer, room.size);
     if piece.has_failed {
         return Turn {
             loading,
@@ -100,6 +110,7 @@ fn convert_once(loading: Loading, room: Room, store: &mut [u64], buffer: &mut [u
 
 // Reads and converts until an image is whole or refused.
 fn convert_input(buffer: &mut [u8]) -> Progress
+    requires { ⌜ 5 ≤ length (now buffer) ⌝ }
     ensures { λ p. ⌜ Progress-fits p (now (buffer .exit)) ⌝ }
 {
     let mut store = loading::empty_store();

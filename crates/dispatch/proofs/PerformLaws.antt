@@ -9,7 +9,7 @@ use lib.ListN.{length}
 use borrow.Author.Tests.{eq-eqb, ne-eqb}
 use Rattle.model.specs.Words.{Pointer, pointer-word, Instruction, instruction-in}
 use Rattle.model.specs.Registers.{Registers, machine, with-a, with-pr, with-ipr, moved-by, advanced}
-use Rattle.model.specs.Opcodes.{reads, transfers, Opcode, unprivileged, sum, decoded, STA, AOS, LDI, EAP, SPP, CALL, RETURN, LDBR, HLT}
+use Rattle.model.specs.Opcodes.{reads, transfers, Opcode, unprivileged, sum, decoded, STA, AOS, LDI, EAP, SPP, CALL, RETURN, LDBR, HLT, RCU}
 use Rattle.model.specs.Program.{Program, fail, halt, execute, faults, halts}
 use Rattle.model.specs.Step as Step
 use Rattle.model.proofs.Computing.{by-computation}
@@ -113,34 +113,35 @@ spp-arm c d prs m m-now w t x v u e f g h =
 
 -- the numbers that no arm has, as a match leaves them
 abbrev pub No-arm : (opcode : ℕ) → Type 0
-No-arm v = ((((((((((((((((((Unit {0} × (v ≡ 1 → ⊥)) × (v ≡ 2 → ⊥)) × (v ≡ 3 → ⊥)) × (v ≡ 4 → ⊥)) × (v ≡ 5 → ⊥)) × (v ≡ 6 → ⊥)) × (v ≡ 7 → ⊥)) × (v ≡ 8 → ⊥)) × (v ≡ 9 → ⊥)) × (v ≡ 10 → ⊥)) × (v ≡ 16 → ⊥)) × (v ≡ 17 → ⊥)) × (v ≡ 24 → ⊥)) × (v ≡ 25 → ⊥)) × (v ≡ 26 → ⊥)) × (v ≡ 32 → ⊥)) × (v ≡ 33 → ⊥)) × (v ≡ 40 → ⊥)) × (v ≡ 41 → ⊥)
+No-arm v = (((((((((((((((((((Unit {0} × (v ≡ 1 → ⊥)) × (v ≡ 2 → ⊥)) × (v ≡ 3 → ⊥)) × (v ≡ 4 → ⊥)) × (v ≡ 5 → ⊥)) × (v ≡ 6 → ⊥)) × (v ≡ 7 → ⊥)) × (v ≡ 8 → ⊥)) × (v ≡ 9 → ⊥)) × (v ≡ 10 → ⊥)) × (v ≡ 16 → ⊥)) × (v ≡ 17 → ⊥)) × (v ≡ 24 → ⊥)) × (v ≡ 25 → ⊥)) × (v ≡ 26 → ⊥)) × (v ≡ 32 → ⊥)) × (v ≡ 33 → ⊥)) × (v ≡ 40 → ⊥)) × (v ≡ 41 → ⊥)) × (v ≡ 42 → ⊥)
 
 no-arm-outside : (v : ℕ) → No-arm v → Outside v
 unfolding by-computation
 no-arm-outside v r =
     record {
-      lda = r .0 .0 .0 .0 .0 .0 .0 .0 .0 .0 .0 .0 .0 .0 .0 .0 .0 .0 .1;
-      sta = r .0 .0 .0 .0 .0 .0 .0 .0 .0 .0 .0 .0 .0 .0 .0 .0 .0 .1;
-      ada = r .0 .0 .0 .0 .0 .0 .0 .0 .0 .0 .0 .0 .0 .0 .0 .0 .1;
-      sba = r .0 .0 .0 .0 .0 .0 .0 .0 .0 .0 .0 .0 .0 .0 .0 .1;
-      ana = r .0 .0 .0 .0 .0 .0 .0 .0 .0 .0 .0 .0 .0 .0 .1;
-      ora = r .0 .0 .0 .0 .0 .0 .0 .0 .0 .0 .0 .0 .0 .1;
-      xra = r .0 .0 .0 .0 .0 .0 .0 .0 .0 .0 .0 .0 .1;
-      cnt = r .0 .0 .0 .0 .0 .0 .0 .0 .0 .0 .0 .1;
-      aos = r .0 .0 .0 .0 .0 .0 .0 .0 .0 .0 .1;
-      ldi = r .0 .0 .0 .0 .0 .0 .0 .0 .0 .1;
-      eap = r .0 .0 .0 .0 .0 .0 .0 .0 .1;
-      spp = r .0 .0 .0 .0 .0 .0 .0 .1;
-      tra = r .0 .0 .0 .0 .0 .0 .1;
-      tze = r .0 .0 .0 .0 .0 .1;
-      tmi = r .0 .0 .0 .0 .1;
-      call = r .0 .0 .0 .1;
-      return = r .0 .0 .1;
-      ldbr = r .0 .1;
-      hlt = r .1;
+      lda = r .0 .0 .0 .0 .0 .0 .0 .0 .0 .0 .0 .0 .0 .0 .0 .0 .0 .0 .0 .1;
+      sta = r .0 .0 .0 .0 .0 .0 .0 .0 .0 .0 .0 .0 .0 .0 .0 .0 .0 .0 .1;
+      ada = r .0 .0 .0 .0 .0 .0 .0 .0 .0 .0 .0 .0 .0 .0 .0 .0 .0 .1;
+      sba = r .0 .0 .0 .0 .0 .0 .0 .0 .0 .0 .0 .0 .0 .0 .0 .0 .1;
+      ana = r .0 .0 .0 .0 .0 .0 .0 .0 .0 .0 .0 .0 .0 .0 .0 .1;
+      ora = r .0 .0 .0 .0 .0 .0 .0 .0 .0 .0 .0 .0 .0 .0 .1;
+      xra = r .0 .0 .0 .0 .0 .0 .0 .0 .0 .0 .0 .0 .0 .1;
+      cnt = r .0 .0 .0 .0 .0 .0 .0 .0 .0 .0 .0 .0 .1;
+      aos = r .0 .0 .0 .0 .0 .0 .0 .0 .0 .0 .0 .1;
+      ldi = r .0 .0 .0 .0 .0 .0 .0 .0 .0 .0 .1;
+      eap = r .0 .0 .0 .0 .0 .0 .0 .0 .0 .1;
+      spp = r .0 .0 .0 .0 .0 .0 .0 .0 .1;
+      tra = r .0 .0 .0 .0 .0 .0 .0 .1;
+      tze = r .0 .0 .0 .0 .0 .0 .1;
+      tmi = r .0 .0 .0 .0 .0 .1;
+      call = r .0 .0 .0 .0 .1;
+      return = r .0 .0 .0 .1;
+      ldbr = r .0 .0 .1;
+      hlt = r .0 .1;
+      rcu = r .1;
     }
 
--- PRIVILEGED: LDBR and HLT
+-- PRIVILEGED: LDBR, HLT and RCU
 module _ (c : Core) (d : Descriptor) (ps : List Pointer) (m : List ℕ) (w : ℕ) (t : Pointer) (x : After) (v : ℕ) (e : v ≡ instruction-in w .opcode) where
   refuse-33 : (o : Opcode) → decoded (instruction-in w .opcode) ≡ some o → o .privileged ≡ true → (c .ipr .ring ≡ 0 → ⊥) → (u : Code.Pointer) → x ≡ faulted-after c d 33 u →
       as-pointer u ≡ as-pointer (c .ipr) → Does c d ps m (dispatched-in (machine-with c ps m) w t) x ps m
@@ -169,6 +170,17 @@ module _ (c : Core) (d : Descriptor) (ps : List Pointer) (m : List ℕ) (w : ℕ
       does-as c d ps m _ x ps m _
       (ap (execute (machine-with c ps m)) (dispatched-in-ring-0 (length m) (registers-with c ps) (instruction-in w) t HLT (decodes-as (instruction-in w) v 41 _ e f refl) z))
       (halted-does c d ps m x h)
+
+  pub rcu-refused : v ≡ 42 → (c .ipr .ring ≡ 0 → ⊥) → (u : Code.Pointer) → x ≡ faulted-after c d 33 u → as-pointer u ≡ as-pointer (c .ipr) → Does c d ps m (dispatched-in (machine-with c ps m) w t) x ps m
+  unfolding RCU by-computation
+  rcu-refused f z u g k = refuse-33 RCU (decodes-as (instruction-in w) v 42 _ e f refl) refl z u g k
+
+  pub rcu-arm : v ≡ 42 → c .ipr .ring ≡ 0 → (ps-now : List Pointer) → Does c d ps m (Step.restore (length m) t) x ps-now m →
+      Does c d ps m (dispatched-in (machine-with c ps m) w t) x ps-now m
+  unfolding Step.perform RCU by-computation
+  rcu-arm f z ps-now h =
+      does-as c d ps m _ x ps-now m _
+      (ap (execute (machine-with c ps m)) (dispatched-in-ring-0 (length m) (registers-with c ps) (instruction-in w) t RCU (decodes-as (instruction-in w) v 42 _ e f refl) z)) h
 
   -- 32: an arm for none of the numbers
   pub unknown-arm : No-arm v → (u : Code.Pointer) → x ≡ faulted-after c d 32 u → as-pointer u ≡ as-pointer (c .ipr) → Does c d ps m (dispatched-in (machine-with c ps m) w t) x ps m

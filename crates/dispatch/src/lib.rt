@@ -66,10 +66,16 @@ pub fn perform(
             operations::access::load_dbr(core, code, memory, t)
         }
         41 => {
-            if ipr.ring != 0 {
+            if ipr.ring != 0 { // 33 of HLT
                 return state::faulted(core, code, 33, ipr);
             }
             halt(core, code)
+        }
+        42 => {
+            if ipr.ring != 0 { // 33 of RCU
+                return state::faulted(core, code, 33, ipr);
+            }
+            frames::restore::restore(core, code, prs, memory, t)
         }
         _ => state::faulted(core, code, 32, ipr),
     }

@@ -1,7 +1,7 @@
 // The bench's call: an image loaded and run whole, for its listing.
 ghost use Rattle.model.specs.Image.{checked};
 ghost use Rattle.model.specs.Bench as Bench;
-ghost use Rattle.host.specs.Record.{machine-of};
+ghost use Rattle.host.specs.Record.{machine-of, delivery-of};
 ghost use Rattle.calls.specs.Call.{Called-as};
 use calls::Called;
 use host::record::Registers;
@@ -9,7 +9,7 @@ use image::load::LoadOutcome;
 
 // What an image gave, run whole: 1 to 4, then 45, then the listing.
 pub fn list_loaded(registers: Registers, memory: &mut [u64], budget: u32, text: &mut [u8]) -> Called
-    ensures { λ x. ⌜ Called-as (Bench.bench-on (checked (machine-of registers (now (memory .entry))) budget) (now (text .entry))) x (now (text .exit)) ⌝ }
+    ensures { λ x. ⌜ Called-as (Bench.bench-on (checked (delivery-of registers) (machine-of registers (now (memory .entry))) budget) (now (text .entry))) x (now (text .exit)) ⌝ }
 {
     let x = machine::prepare(registers, memory);
     if x.number != 0 {
@@ -27,7 +27,7 @@ pub fn list_loaded(registers: Registers, memory: &mut [u64], budget: u32, text: 
     let prs = x.prs;
     Called {
         number: 0,
-        length: listing::list_whole(x.core, prs, memory, budget, text),
+        length: listing::list_whole(registers.delivery, x.core, prs, memory, budget, text),
     }
 }
 

@@ -1,5 +1,5 @@
 -- What a run on a record's parts answers, from the run on the core's numbers. Assumes nothing.
-use mathlib.Core.Path.{_≡_, _∙_, ap}
+use mathlib.Core.Path.{_≡_, refl, _∙_, ap}
 use mathlib.Core.Bool.{Bool}
 use mathlib.Core.List.{List}
 use Prim.Native.Nat.{ℕ, _≤_}
@@ -10,7 +10,8 @@ use Rattle.words.specs.View.{as-pointer}
 use Rattle.words.specs.declared.pointer.Pointer as Core
 use Rattle.segments.specs.Translation.{as-dbr}
 use Rattle.segments.specs.declared.translate.Dbr.{Dbr}
-use Rattle.state.specs.View.{as-machine}
+use Rattle.state.specs.View.{as-machine, as-delivery}
+use Rattle.state.specs.declared.Delivery.{Delivery}
 use Rattle.host.specs.Record.{pointer-of, base-of, machine-of, In-record}
 use Rattle.host.specs.declared.record.DescriptorBase.{DescriptorBase}
 use Rattle.host.specs.declared.record.Pointer.{Pointer}
@@ -24,25 +25,26 @@ pub parts-fit : (a : ℕ) (d : Dbr) (p : Core.Pointer) → d .address ≤ 429496
 parts-fit a d p i j k l m = record { ring-fits = k; segment-fits = l; word-fits = m; address-fits = i; length-fits = j }
 
 -- a record's parts in the core's form
-module _ (a : ℕ) (dbr : DescriptorBase) (ipr : Pointer) (prs memory : List ℕ) (d : Dbr) (p : Core.Pointer) (e : as-dbr d ≡ base-of dbr) (f : as-pointer p ≡ pointer-of ipr) where
-  same-machine : as-machine (core-of a (d .address) (d .length) (p .ring) (p .segment .0) (p .word .0)) prs memory ≡ machine-of (together a dbr ipr prs) memory
+module _ (a : ℕ) (dbr : DescriptorBase) (ipr : Pointer) (v : Delivery) (prs memory : List ℕ) (d : Dbr) (p : Core.Pointer) (e : as-dbr d ≡ base-of dbr) (f : as-pointer p ≡ pointer-of ipr) where
+  same-machine : as-machine (core-of a (d .address) (d .length) (p .ring) (p .segment .0) (p .word .0)) prs memory ≡ machine-of (together a dbr ipr v prs) memory
   same-machine = ap (λ r. record { registers = r; memory = memory }) (registers-same a _ _ _ _ _ e f)
 
   module _ (single : Bool) (b : ℕ) (trace : List ℕ) (x : Numbered.Answered) (prs-now memory-now trace-now : List ℕ)
-      (s : Answered-as single b (core-of a (d .address) (d .length) (p .ring) (p .segment .0) (p .word .0)) prs memory trace x prs-now memory-now trace-now) where
+      (s : Answered-as (as-delivery v) single b (core-of a (d .address) (d .length) (p .ring) (p .segment .0) (p .word .0)) prs memory trace x prs-now memory-now trace-now) where
     pub call-says : (q r : Pointer) (c : DescriptorBase) → pointer-of q ≡ as-pointer (x .pointer) → pointer-of r ≡ as-pointer (x .core .ipr) →
         base-of c ≡ as-dbr (x .core .dbr) →
-        Call-says single b (together a dbr ipr prs) memory (record { kind = x .kind; number = x .number; count = x .count; pointer = q; «pointer_words» = x .pointers }) (together (x .core .a) c r prs-now) memory-now
+        Call-says single b (together a dbr ipr v prs) memory (record { kind = x .kind; number = x .number; count = x .count; pointer = q; «pointer_words» = x .pointers }) (together (x .core .a) c r v prs-now) memory-now
     call-says q r c g h i =
         record {
           answer-same =
               ap (λ t. record { kind = x .kind; number = x .number; count = x .count; pointer = t }) g
               ∙ s .numbers-same
-              ∙ ap (λ m. reply-numbers (run b m .reply)) same-machine;
+              ∙ ap (λ m. reply-numbers (run (as-delivery v) b m .reply)) same-machine;
           registers-same =
               registers-same (x .core .a) _ _ _ _ _ i h
               ∙ ap (λ (m : Machine). m .registers) (s .machine-same)
-              ∙ ap (λ m. run b m .machine .registers) same-machine;
-          memory-same = ap (λ (m : Machine). m .memory) (s .machine-same) ∙ ap (λ m. run b m .machine .memory) same-machine;
-          pointers-same = s .pointers-same ∙ ap (pointers-read single b) same-machine;
+              ∙ ap (λ m. run (as-delivery v) b m .machine .registers) same-machine;
+          delivery-same = refl;
+          memory-same = ap (λ (m : Machine). m .memory) (s .machine-same) ∙ ap (λ m. run (as-delivery v) b m .machine .memory) same-machine;
+          pointers-same = s .pointers-same ∙ ap (pointers-read (as-delivery v) single b) same-machine;
         }

@@ -3,6 +3,7 @@ ghost use Rattle.entry.specs.Call.{together, Call-says};
 use host::record::DescriptorBase;
 use host::record::Pointer;
 use host::record::Registers;
+use state::Delivery;
 
 // An answer as numbers. Kinds: 0 refused, 1 spent or completed, 2 halted, 3 fault; what a kind leaves free is 0. Pointer words are
 // those of a run's completed steps, or of a single step however it ends.
@@ -30,15 +31,17 @@ fn run_fields(
     a: u64,
     dbr: DescriptorBase,
     ipr: Pointer,
+    delivery: Delivery,
     budget: u32,
     single: bool,
 ) -> Answered
-    ensures { λ x. ⌜ Call-says single budget (together a dbr ipr (now (prs .entry))) (now (memory .entry)) (x .answer) (together (x .a) (x .dbr) (x .ipr) (now (prs .exit))) (now (memory .exit)) ⌝ }
+    ensures { λ x. ⌜ Call-says single budget (together a dbr ipr delivery (now (prs .entry))) (now (memory .entry)) (x .answer) (together (x .a) (x .dbr) (x .ipr) delivery (now (prs .exit))) (now (memory .exit)) ⌝ }
 {
     let base = host::record::to_base(dbr);
     let at = host::record::to_core(ipr);
     let mut none: [u64; 0] = [];
     let x = machine::run(
+        delivery,
         a,
         base.address,
         base.length,
@@ -47,7 +50,7 @@ fn run_fields(
         at.word.0,
         prs,
         memory,
-        budget,
+        budget, // of the run
         &mut none,
         single,
     );
@@ -72,7 +75,17 @@ pub fn call(registers: &mut Registers, memory: &mut [u64], budget: u32, single: 
     let a = registers.a;
     let dbr = registers.dbr;
     let ipr = registers.ipr;
-    let x = run_fields(&mut registers.prs, memory, a, dbr, ipr, budget, single);
+    let delivery = registers.delivery;
+    let x = run_fields(
+        &mut registers.prs,
+        memory,
+        a,
+        dbr,
+        ipr,
+        delivery,
+        budget,
+        single,
+    );
     registers.a = x.a;
     registers.dbr = x.dbr;
     registers.ipr = x.ipr;

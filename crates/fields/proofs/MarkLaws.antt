@@ -1,5 +1,5 @@
 -- A record's mark by its first two bytes. Assumes nothing.
-use mathlib.Core.Path.{_≡_, refl, sym}
+use mathlib.Core.Path.{_≡_, refl, sym, _∙_, ap}
 use mathlib.Core.Bool.{Bool, true, false, _&&_}
 use mathlib.Core.List.{List, [], _∷_, _++_}
 use mathlib.Core.Option.{Option, none, some}
@@ -8,7 +8,11 @@ use native.Mathlib.Omega.{arith}
 use lib.Dec.{eqb}
 use lib.ListN.{length, getD, take, List·getD-append}
 use lib.Seq.{getD-take}
-use Rattle.model.specs.Image.{Mark, ME, ST, WD, RN, marked, mark-of}
+use Rattle.model.specs.Image.{Rules, Mark, ME, ST, WD, RN, marked, mark-of, start-size}
+use Rattle.fields.specs.declared.mark.Mark as Code
+use Rattle.fields.specs.declared.mark.Mark.the-variants.{Start}
+use Rattle.fields.specs.Mark.{size-of}
+use Rattle.fields.specs.Rules.{rules-of}
 
 -- the tests in turn
 module _ (x y : ℕ) where
@@ -57,5 +61,30 @@ mark-of-record n bs h = rw (getD-take n bs 0 0 (omega arith), getD-take n bs 1 0
 pub mark-of-front : (bs rest : List ℕ) → 2 ≤ length bs → mark-of (bs ++ rest) ≡ mark-of bs
 unfolding mark-of marked
 mark-of-front bs rest h = rw (List·getD-append bs rest 0 0 (omega arith), List·getD-append bs rest 0 1 (omega arith))
+
+-- THE SIZE OF ST by the rules
+module _ (is-stored : Bool) where
+  pub stored-start : is-stored ≡ true → 61 ≡ start-size (rules-of is-stored)
+  unfolding start-size rules-of
+  stored-start e = sym (rw e)
+
+  pub todays-start : is-stored ≡ false → 66 ≡ start-size (rules-of is-stored)
+  unfolding start-size rules-of
+  todays-start e = sym (rw e)
+
+pub start-has-registers : (is-stored : Bool) → 61 ≤ start-size (rules-of is-stored)
+unfolding start-size rules-of
+start-has-registers true = omega arith
+start-has-registers false = omega arith
+
+pub start-within : (is-stored : Bool) → start-size (rules-of is-stored) ≤ 66
+unfolding start-size rules-of
+start-within true = omega arith
+start-within false = omega arith
+
+pub start-sized : (v : Rules) (k : Code.Mark) (n : ℕ) → k ≡ Start → n ≡ start-size v → n ≡ size-of v k
+start-sized v k n e q = q ∙ ap (size-of v) (sym e)
+
+pub ruleset start-sizes = (stored-start, todays-start, start-sized)
 
 pub ruleset marks = (me-mark, st-mark, wd-mark, rn-mark, no-mark, same-mark, short-mark)

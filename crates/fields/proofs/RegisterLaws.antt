@@ -1,5 +1,6 @@
 -- The registers in an ST record, field by field. Assumes nothing.
 use mathlib.Core.Path.{_≡_, refl, sym, _∙_, ap}
+use mathlib.Core.Bool.{Bool, true, false}
 use mathlib.Core.List.{List, [], _∷_, _++_}
 use Prim.Native.Nat.{ℕ, zero, suc, _+_, _*_, _≤_, _<_}
 use native.Mathlib.Numerals.{add-one}
@@ -7,9 +8,11 @@ use native.Mathlib.Omega.{arith}
 use lib.ListN.{length, getD, set, take}
 use lib.Seq.{take-all, take-suc, take-suc-set}
 use Rattle.model.specs.Words.{Pointer}
-use Rattle.model.specs.Registers.{Registers}
-use Rattle.model.specs.Image.{number-at, pointer-at, pointers-at, registers-at}
+use Rattle.model.specs.Registers.{Registers, Delivery, no-delivery}
+use Rattle.model.specs.Image.{start-size, number-at, pointer-at, pointers-at, registers-at, delivery-at}
 use Rattle.state.specs.View.{pointers-in, as-pointers}
+use Rattle.fields.specs.Rules.{rules-of}
+use Rattle.fields.proofs.MarkLaws.{todays-start, start-has-registers}
 
 pub pointer-read : (a n s i : ℕ) (bs : List ℕ) → n ≡ number-at a 1 bs → s ≡ number-at (a + 1) 2 bs → i ≡ number-at (a + 3) 2 bs →
     _≡_ {A = Pointer} (record { ring = n; segment = s; word = i }) (pointer-at a bs)
@@ -52,4 +55,24 @@ pub registers-read : (bs : List ℕ) (a b l : ℕ) (p : Pointer) (ps : List Poin
 unfolding registers-at
 registers-read bs a b l p ps e f g h i = rw (e, f, g, h, i)
 
+-- WHAT FAULTS DO, by the rules
+module _ (is-stored : Bool) (bs : List ℕ) where
+  pub none-delivered : is-stored ≡ true → no-delivery ≡ delivery-at (rules-of is-stored) bs
+  unfolding rules-of delivery-at
+  none-delivered e = sym (rw e)
+
+  pub delivery-read : is-stored ≡ false → (n s i : ℕ) → n ≡ number-at 61 1 bs → s ≡ number-at 62 2 bs → i ≡ number-at 64 2 bs →
+      _≡_ {A = Delivery} (record { switch = n; save = s; handler = i }) (delivery-at (rules-of is-stored) bs)
+  unfolding rules-of delivery-at
+  delivery-read e n s i f g h = rw (e, f, g, h)
+
+  module _ (whole : start-size (rules-of is-stored) ≤ length bs) where
+    pub registers-within : (n : ℕ) → n ≤ 61 → n ≤ length bs
+    registers-within n h = let y = start-has-registers is-stored in omega arith
+
+    pub delivery-within : is-stored ≡ false → (n : ℕ) → n ≤ 66 → n ≤ length bs
+    delivery-within e n h = let y = todays-start is-stored e in omega arith
+
 pub ruleset registers-in = (pointer-read, one-more-read, prs-read, registers-read)
+
+pub ruleset delivery-in = (none-delivered, delivery-read, delivery-within)

@@ -13,9 +13,9 @@ as-mark Run = some Image.RN
 as-mark Unknown = none
 
 -- an unknown mark is known as such from its two bytes
-abbrev pub size-of : Mark → ℕ
-size-of Memory = 6
-size-of Start = 61
-size-of Word = 14
-size-of Run = 6
-size-of Unknown = 2
+abbrev pub size-of : Image.Rules → Mark → ℕ
+size-of v Memory = 6
+size-of v Start = Image.start-size v
+size-of v Word = 14
+size-of v Run = 6
+size-of v Unknown = 2

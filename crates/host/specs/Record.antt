@@ -8,7 +8,7 @@ use Rattle.host.specs.declared.record.DescriptorBase.{DescriptorBase}
 use Rattle.host.specs.declared.record.Pointer.{Pointer}
 use Rattle.host.specs.declared.record.Registers as Record
 use Rattle.state.specs.declared.Core.{Core}
-use Rattle.state.specs.View.{as-pointers, registers-with}
+use Rattle.state.specs.View.{as-pointers, as-delivery, registers-with}
 
 abbrev pub pointer-of : Pointer → Words.Pointer
 pointer-of p = record { ring = p .ring; segment = p .segment; word = p .word }
@@ -22,6 +22,9 @@ registers-of r =
 
 abbrev pub machine-of : Record.Registers → (memory : List ℕ) → Registers.Machine
 machine-of r m = record { registers = registers-of r; memory = m }
+
+abbrev pub delivery-of : Record.Registers → Registers.Delivery
+delivery-of r = as-delivery (r .delivery)
 
 -- a core whose numbers fit the record's fields
 pub record In-record (c : Core) : Type 0 where

@@ -6,6 +6,7 @@ ghost use Rattle.segments.specs.Translation.{as-dbr};
 ghost use Rattle.host.specs.Record.{pointer-of, base-of, Converted};
 use segments::translate::Dbr;
 use state::Core;
+use state::Delivery;
 use words::pointer::SegmentNumber;
 use words::pointer::WordNumber;
 
@@ -22,13 +23,15 @@ pub struct DescriptorBase {
     pub length: u16,
 }
 
-// In C the PRs are eight pointers: PR k has the three numbers from 3k on, and the upper byte of the first is padding there.
+// In C the PRs are eight pointers: PR k has the three numbers from 3k on, and the upper byte of the first is padding there. What
+// faults do stands there as three fields of the record.
 #[repr(C)]
 pub struct Registers {
     pub a: u64,
     pub dbr: DescriptorBase,
     pub ipr: Pointer,
     pub prs: [u16; 24],
+    pub delivery: Delivery,
 }
 
 // The core's form of a pointer, and back.

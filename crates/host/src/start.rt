@@ -6,9 +6,10 @@ ghost use lib.Bits.{bitAnd, bitOr};
 ghost use lib.Dec.{eqb};
 ghost use Rattle.model.specs.Questions as Questions;
 ghost use Rattle.words.specs.View.{as-pointer};
-ghost use Rattle.state.specs.View.{as-pointers, as-machine, pr-of};
+ghost use Rattle.state.specs.View.{as-pointers, as-machine, as-delivery, pr-of};
 ghost use Rattle.host.specs.Rings.{packed-rings, Joined, ones, eights};
 use state::Core;
+use state::Delivery;
 use words::pointer::Pointer;
 
 // 2 of one pointer.
@@ -84,9 +85,16 @@ fn are_at_least(ring: u64, prs: &[u16; 24]) -> bool
     bytes_are_at_least(ring, rings_of(prs))
 }
 
+// 2 of the switch and its segments.
+fn is_delivery(delivery: Delivery) -> bool
+    ensures { λ r. ⌜ r ≡ Questions.delivery-in-range (as-delivery delivery) ⌝ }
+{
+    (delivery.switch <= 1) & ((delivery.save <= 4095) & (delivery.handler <= 4095))
+}
+
 // 1 to 4: the number of the first no, or 0.
-pub fn start_answer(core: Core, prs: &[u16; 24], memory: &[u64]) -> u8
-    ensures { λ n. ⌜ n ≡ Questions.start-questions (as-machine core (now (prs .entry)) (now (memory .entry))) ⌝ }
+pub fn start_answer(delivery: Delivery, core: Core, prs: &[u16; 24], memory: &[u64]) -> u8
+    ensures { λ n. ⌜ n ≡ Questions.start-questions (as-delivery delivery) (as-machine core (now (prs .entry)) (now (memory .entry))) ⌝ }
 {
     if 16777216 < memory.len() {
         return 1;
@@ -98,6 +106,9 @@ pub fn start_answer(core: Core, prs: &[u16; 24], memory: &[u64]) -> u8
         return 2;
     }
     if 16777215 < core.dbr.address {
+        return 2;
+    }
+    if !is_delivery(delivery) {
         return 2;
     }
     if !are_at_least(core.ipr.ring, prs) {

@@ -14,7 +14,7 @@ use Rattle.model.proofs.BranchLaws.{and-left, and-right}
 use lib.Seq.{drop-drop, take-all}
 use Rattle.model.specs.Image as Image
 use Rattle.model.specs.Image.{image-after}
-use Rattle.host.specs.Record.{registers-of}
+use Rattle.host.specs.Record.{registers-of, delivery-of}
 use Rattle.model.specs.Registers.{machine}
 use Rattle.loading.specs.declared.Loading.{Loading}
 use Rattle.loading.specs.declared.Outcome.{Outcome}
@@ -218,6 +218,11 @@ may-load v l m s z = s m z .0
 pub words-within : (l : Loading) (m : List ℕ) → Loading-within l m → l .«has_memory» ≡ true → l .words ≤ length m
 unfolding Memory-within
 words-within l m w h = let q = rw h at w .memory-within in omega (arith, w .sized)
+
+-- what faults do is loaded with the registers
+pub loaded-delivery : (l : Loading) (m : List ℕ) → as-loading l m .delivery ≡ delivery-of (l .registers)
+unfolding as-loading
+loaded-delivery l m = refl
 
 -- once ME and ST have come, what is loaded is a machine
 pub loaded-machine : (l : Loading) (m : List ℕ) → l .«has_memory» ≡ true → l .«has_registers» ≡ true →

@@ -7,7 +7,7 @@ use native.Mathlib.Omega.{arith}
 use lib.ListN.{length, take, drop}
 use lib.Seq.{length-take-le}
 use Rattle.model.specs.Image as Image
-use Rattle.buffers.specs.Move.{moved-down}
+use Rattle.buffers.specs.Move.{bytes-moved}
 use Rattle.buffers.proofs.MoveLaws.{take-moved, part-of-front}
 use Rattle.loading.specs.declared.Loading.{Loading}
 use Rattle.image.specs.declared.load.LoadOutcome.{LoadOutcome}
@@ -55,7 +55,7 @@ module _ (l : Loading) (m t : List ℕ) (n : ℕ) (e : Bool) (x : Loaded) (m-now
   unfolding outcome-image piece-image
   piece-ready b u o = settled (Ready b) u o (λ rest. refl) (λ q. q)
 
-  pub piece-kept : (used : ℕ) (u : List ℕ) → x .outcome ≡ More used → u ≡ moved-down used 0 (n - used) t →
+  pub piece-kept : (used : ℕ) (u : List ℕ) → x .outcome ≡ More used → u ≡ bytes-moved used 0 (n - used) t →
       Piece-loaded l m (take n t) e (record { loading = x .loading; outcome = More (n - used) }) m-now u
   unfolding Goes Piece-goes outcome-image piece-image
   piece-kept used u o k =
@@ -83,7 +83,7 @@ module _ (l : Loading) (m piece : List ℕ) (e : Bool) (x : Loaded) (m-now u : L
   pub piece-within : Loading-within (x .loading) m-now
   piece-within = w .within
 
-  pub kept-few : (n : ℕ) → x .outcome ≡ More n → n < 61
+  pub kept-few : (n : ℕ) → x .outcome ≡ More n → n < 66
   kept-few n o = subst (Piece-within e (x .loading)) o (w .outcome-within) .1
 
   pub piece-words : (b : ℕ) → x .outcome ≡ Ready b → x .loading .words ≤ length m-now

@@ -48,10 +48,10 @@ as-outcome (Refused n) = Outcome.Refused n
 as-outcome (More used) = Outcome.Next used
 as-outcome (Ready budget) = Outcome.Ready budget
 
--- fewer than 61 bytes are left over
+-- fewer than 66 bytes are left over
 abbrev pub Load-outcome-within : (bytes : List ℕ) → (ended : Bool) → Loading → LoadOutcome → Type 0
 Load-outcome-within bs e l (Refused n) = 1 ≤ n
-Load-outcome-within bs e l (More used) = (e ≡ false) × (used ≤ length bs) × (length bs - used < 61)
+Load-outcome-within bs e l (More used) = (e ≡ false) × (used ≤ length bs) × (length bs - used < 66)
 Load-outcome-within bs e l (Ready budget) = (e ≡ true) × (l .«has_memory» ≡ true) × (l .«has_registers» ≡ true)
 
 pub record Loaded-as (l : Loading) (m bs : List ℕ) (e : Bool) (x : Loaded) (m-now : List ℕ) : Type 0 where

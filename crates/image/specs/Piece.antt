@@ -15,15 +15,15 @@ use Rattle.loading.specs.View.{as-loading, Loading-within}
 unfoldable pub piece-image : LoadOutcome → Image.Loading → (buffer rest : List ℕ) → Image.Image
 piece-image (Refused n) l buffer rest = Image.refused-image n
 piece-image (More kept) l buffer rest = Image.image-after l (take kept buffer ++ rest)
-piece-image (Ready budget) l buffer rest = Image.checked (Image.machine-of l) budget
+piece-image (Ready budget) l buffer rest = Image.checked (l .delivery) (Image.machine-of l) budget
 
--- the outcome is right whatever comes after the piece, so that an image in pieces is loaded as it is whole; fewer than 61 bytes are kept
+-- the outcome is right whatever comes after the piece, so that an image in pieces is loaded as it is whole; fewer than 66 bytes are kept
 unfoldable pub Piece-goes : (before : Image.Loading) → (piece : List ℕ) → (ended : Bool) → LoadOutcome → (after : Image.Loading) → (buffer : List ℕ) → Type 0
 Piece-goes l bs e o k buffer = (rest : List ℕ) → (e ≡ true → rest ≡ []) → Image.image-after l (bs ++ rest) ≡ piece-image o k buffer rest
 
 abbrev pub Piece-within : (ended : Bool) → Loading → LoadOutcome → Type 0
 Piece-within e l (Refused n) = 1 ≤ n
-Piece-within e l (More kept) = (e ≡ false) × (kept < 61)
+Piece-within e l (More kept) = (e ≡ false) × (kept < 66)
 Piece-within e l (Ready budget) = (e ≡ true) × (l .«has_memory» ≡ true) × (l .«has_registers» ≡ true)
 
 pub record Piece-loaded (l : Loading) (m piece : List ℕ) (e : Bool) (x : Loaded) (m-now buffer-now : List ℕ) : Type 0 where

@@ -3,11 +3,12 @@ ghost use mathlib.Core.Path.{_≡_};
 ghost use Prim.Native.Nat.{_+_, _*_, _≤_, _<_, min};
 ghost use lib.ListN.{length};
 ghost use Rattle.model.specs.Questions.{start-questions};
-ghost use Rattle.state.specs.View.{as-machine};
+ghost use Rattle.state.specs.View.{as-machine, as-delivery};
 ghost use Rattle.listing.specs.Lines.{Lines-written, Whole-listing};
 use chunks::Line;
 use run::Reply;
 use state::Core;
+use state::Delivery;
 
 fn smaller(x: usize, y: usize) -> usize
     ensures { λ r. ⌜ r ≡ min x y ⌝ }
@@ -31,6 +32,7 @@ pub struct Listed {
 
 // The lines of a run that goes on after `count` steps, which read `total` pointer words, until it ends or the text is full.
 pub fn list(
+    delivery: Delivery,
     core: Core,
     prs: &mut [u16; 24],
     memory: &mut [u64],
@@ -39,8 +41,8 @@ pub fn list(
     budget: u32,
     text: &mut [u8],
 ) -> Listed
-    requires { ⌜ (start-questions (as-machine core (now prs) (now memory)) ≡ 0) × (count ≤ budget) × (total ≤ 64 * count) ⌝ }
-    ensures { λ x. ⌜ Lines-written (as-machine core (now (prs .entry)) (now (memory .entry))) count total budget (now (text .entry)) x (as-machine (x .line .core) (now (prs .exit)) (now (memory .exit))) (now (text .exit)) ⌝ }
+    requires { ⌜ (start-questions (as-delivery delivery) (as-machine core (now prs) (now memory)) ≡ 0) × (count ≤ budget) × (total ≤ 64 * count) ⌝ }
+    ensures { λ x. ⌜ Lines-written (as-delivery delivery) (as-machine core (now (prs .entry)) (now (memory .entry))) count total budget (now (text .entry)) x (as-machine (x .line .core) (now (prs .exit)) (now (memory .exit))) (now (text .exit)) ⌝ }
 {
     let mut x = Line {
         core,
@@ -59,7 +61,17 @@ pub fn list(
             };
         }
         let steps = chunk_of(budget - done, room);
-        x = chunks::list_chunk(x.core, prs, memory, done, x.total, steps, text, length);
+        x = chunks::list_chunk(
+            delivery,
+            x.core,
+            prs,
+            memory,
+            done,
+            x.total,
+            steps,
+            text,
+            length,
+        );
         if x.is_last {
             return Listed {
                 line: x,
@@ -81,16 +93,17 @@ pub fn list(
 
 // A whole listing, where the text has 64 bytes for each of its lines; how long it is.
 pub fn list_whole(
+    delivery: Delivery,
     core: Core,
     prs: [u16; 24],
     memory: &mut [u64],
     budget: u32,
     text: &mut [u8],
 ) -> usize
-    requires { ⌜ (start-questions (as-machine core prs (now memory)) ≡ 0) × (64 * (budget + 1) ≤ length (now text)) ⌝ }
-    ensures { λ r. ⌜ Whole-listing budget (as-machine core prs (now (memory .entry))) (now (text .entry)) r (now (text .exit)) ⌝ }
+    requires { ⌜ (start-questions (as-delivery delivery) (as-machine core prs (now memory)) ≡ 0) × (64 * (budget + 1) ≤ length (now text)) ⌝ }
+    ensures { λ r. ⌜ Whole-listing (as-delivery delivery) budget (as-machine core prs (now (memory .entry))) (now (text .entry)) r (now (text .exit)) ⌝ }
 {
     let mut own = prs;
-    let x = list(core, &mut own, memory, 0, 0, budget, text);
+    let x = list(delivery, core, &mut own, memory, 0, 0, budget, text);
     x.line.length
 }

@@ -23,13 +23,13 @@ use Rattle.loading.specs.Record.{outcome-image, Goes, Asked-51}
 front-and-rest : (n : ℕ) (bs rest : List ℕ) → bs ++ rest ≡ take n bs ++ (drop n bs ++ rest)
 front-and-rest n bs rest = ap (λ xs. xs ++ rest) (sym (take-append-drop n bs)) ∙ append-assoc (take n bs) (drop n bs) rest
 
-module _ (k : Mark) (bs : List ℕ) (is-marked : mark-of bs ≡ some k) (whole : record-size k ≤ length bs) where
-  pub record-at-front : (l : Image.Loading) (rest : List ℕ) → let after = drop (record-size k) bs ++ rest in
-      image-after l (bs ++ rest) ≡ whole-record-on k l (length after) (take (record-size k) bs) (λ j. image-after j after)
-  record-at-front l rest =
-      let n = record-size k in
+module _ (k : Mark) (l : Image.Loading) (bs : List ℕ) (is-marked : mark-of bs ≡ some k) (whole : record-size (l .rules) k ≤ length bs) where
+  pub record-at-front : (rest : List ℕ) → let after = drop (record-size (l .rules) k) bs ++ rest in
+      image-after l (bs ++ rest) ≡ whole-record-on k l (length after) (take (record-size (l .rules) k) bs) (λ j. image-after j after)
+  record-at-front rest =
+      let n = record-size (l .rules) k in
       ap (image-after l) (front-and-rest n bs rest)
-      ∙ image-is-records k l (take n bs) (drop n bs ++ rest) (mark-of-record n bs (record-has-a-mark k) ∙ is-marked) (length-take-le n bs whole)
+      ∙ image-is-records k l (take n bs) (drop n bs ++ rest) (mark-of-record n bs (record-has-a-mark (l .rules) k) ∙ is-marked) (length-take-le n bs whole)
 
 pub number-in-record : (size a n : ℕ) (bs : List ℕ) → size ≤ length bs → a + n ≤ size → number-at a n (take size bs) ≡ number-at a n bs
 number-in-record size a n bs h g =
@@ -63,10 +63,10 @@ pub asked-kept : (v : Image.Rules) (a : ℕ) (m : List ℕ) (answer : Bool) (m-a
 asked-kept v a m answer m-asked asked e = asked .kept e
 
 -- 42
-module _ (k : Mark) (x : Loading) (m bs : List ℕ) (e : Bool) (is-marked : mark-of bs ≡ some k) (whole : record-size k ≤ length bs) where
-  pub out-of-order : ((rest : List ℕ) → in-order k (as-loading x m) (length (drop (record-size k) bs ++ rest)) ≡ false) → Goes (as-loading x m) bs e (Refused 42) (as-loading x m)
-  unfolding Goes outcome-image whole-record-on record-questions ask unless-refused
-  out-of-order h rest _ = record-at-front k bs is-marked whole (as-loading x m) rest ∙ rw (h rest)
+module _ (k : Mark) (x : Loading) (m bs : List ℕ) (e : Bool) (is-marked : mark-of bs ≡ some k) (whole : record-size (rules-of (x .«is_stored»)) k ≤ length bs) where
+  pub out-of-order : ((rest : List ℕ) → in-order k (as-loading x m) (length (drop (record-size (rules-of (x .«is_stored»)) k) bs ++ rest)) ≡ false) → Goes (as-loading x m) bs e (Refused 42) (as-loading x m)
+  unfolding Goes as-loading outcome-image whole-record-on record-questions ask unless-refused
+  out-of-order h rest _ = record-at-front k (as-loading x m) bs is-marked whole rest ∙ rw (h rest)
 
 -- WD
 module _ (x : Loading) (m bs : List ℕ) (e : Bool) (is-marked : mark-of bs ≡ some WD) (whole : 14 ≤ length bs) where
@@ -83,12 +83,12 @@ module _ (x : Loading) (m bs : List ℕ) (e : Bool) (is-marked : mark-of bs ≡ 
 
     pub wd-outside : x .words ≤ a → Goes (as-loading x m) bs e (Refused 44) (as-loading x m)
     unfolding Goes as-loading outcome-image record-size whole-record-on record-questions in-order memory-allowed address-allowed memory-of or-else ask has unless-refused
-    wd-outside g rest _ = record-at-front WD bs is-marked whole (as-loading x m) rest ∙ rw (h, address, sized, le-ltb _ _ g)
+    wd-outside g rest _ = record-at-front WD (as-loading x m) bs is-marked whole rest ∙ rw (h, address, sized, le-ltb _ _ g)
 
     module _ (g : a < x .words) (answer : Bool) (m-asked : List ℕ) (asked : Asked-51 (rules-of (x .«is_stored»)) a m answer m-asked) where
       pub wd-written : answer ≡ false → Goes (as-loading x m) bs e (Refused 51) (as-loading x m-asked)
       unfolding Goes as-loading outcome-image record-size whole-record-on record-questions in-order memory-allowed address-allowed address-new memory-of or-else ask has unless-refused
-      wd-written n rest _ = record-at-front WD bs is-marked whole (as-loading x m) rest ∙ rw (h, address, sized, lt-ltb _ _ g, ← (asked .answered), n)
+      wd-written n rest _ = record-at-front WD (as-loading x m) bs is-marked whole rest ∙ rw (h, address, sized, lt-ltb _ _ g, ← (asked .answered), n)
 
       memory-asked : take (x .words) m-asked ≡ take (x .words) m
       memory-asked =
@@ -100,7 +100,7 @@ module _ (x : Loading) (m bs : List ℕ) (e : Bool) (is-marked : mark-of bs ≡ 
       wd-loaded n v w rest _ =
           let word : number-at 6 8 (take 14 bs) ≡ v = number-in-record 14 6 8 bs whole (omega arith) ∙ sym w in
           let below : a < 8192 = let y = words-within _ _ m z h in omega arith in
-          record-at-front WD bs is-marked whole (as-loading x m) rest
+          record-at-front WD (as-loading x m) bs is-marked whole rest
           ∙ rw (h, address, sized, lt-ltb _ _ g, ← (asked .answered), n, word, take-set-lt (x .words) m-asked a v g, memory-asked, drop-set-lt 8192 m-asked a v below, asked .set-now n)
 
 pub ruleset word-loaded = (not-true, not-false, within-still, address-within, asked-length, asked-within, asked-kept, length-stored, wd-before-me, wd-outside, wd-written, wd-loaded)

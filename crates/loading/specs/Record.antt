@@ -17,16 +17,16 @@ unfoldable pub outcome-image : Outcome → Image.Loading → (bytes rest : List 
 outcome-image (Refused n) l bs rest = Image.refused-image n
 outcome-image Waits l bs rest = Image.image-after l (bs ++ rest)
 outcome-image (Next size) l bs rest = Image.image-after l (drop size bs ++ rest)
-outcome-image (Ready budget) l bs rest = Image.checked (Image.machine-of l) budget
+outcome-image (Ready budget) l bs rest = Image.checked (l .delivery) (Image.machine-of l) budget
 
 -- the outcome is right whatever comes after the bytes; where they are ended, nothing does
 unfoldable pub Goes : (before : Image.Loading) → (bytes : List ℕ) → (ended : Bool) → Outcome → (after : Image.Loading) → Type 0
 Goes l bs e o k = (rest : List ℕ) → (e ≡ true → rest ≡ []) → Image.image-after l (bs ++ rest) ≡ outcome-image o k bs rest
 
--- 61 bytes always make progress, and a loaded record takes six at least
+-- 66 bytes always make progress, and a loaded record takes six at least
 unfoldable pub Outcome-within : (bytes : List ℕ) → (ended : Bool) → Loading → Outcome → Type 0
 Outcome-within bs e l (Refused n) = 1 ≤ n
-Outcome-within bs e l Waits = (e ≡ false) × (length bs < 61)
+Outcome-within bs e l Waits = (e ≡ false) × (length bs < 66)
 Outcome-within bs e l (Next size) = (6 ≤ size) × (size ≤ length bs)
 Outcome-within bs e l (Ready budget) = (e ≡ true) × (l .«has_memory» ≡ true) × (l .«has_registers» ≡ true)
 

@@ -7,12 +7,9 @@ use Prim.Native.Nat.{ℕ, _≤_}
 use lib.ListN.{length, take, drop, replicate}
 use Rattle.model.specs.Image as Image
 use Rattle.addresses.specs.Set.{in-set}
-use Rattle.host.specs.Record.{registers-of}
+use Rattle.host.specs.Record.{registers-of, delivery-of}
+unfoldable pub use Rattle.fields.specs.Rules.{rules-of}
 use Rattle.loading.specs.declared.Loading.{Loading}
-
-unfoldable pub rules-of : (is-stored : Bool) → Image.Rules
-rules-of true = Image.stored
-rules-of false = Image.today
 
 -- memory is the front of the store, and the set of the addresses that a WD has had its end
 unfoldable pub as-loading : Loading → (store : List ℕ) → Image.Loading
@@ -22,6 +19,7 @@ as-loading l m =
       written = in-set (drop 8192 m);
       memory = cond (l .«has_memory») (some (take (l .words) m)) none;
       registers = cond (l .«has_registers») (some (registers-of (l .registers))) none;
+      delivery = delivery-of (l .registers);
     }
 
 -- until ME has come, what is lent is zeros, so that ME has nothing to write

@@ -5,6 +5,7 @@ ghost use Rattle.loading.specs.View.{Starts};
 use host::record::DescriptorBase;
 use host::record::Pointer;
 use host::record::Registers;
+use state::Delivery;
 
 pub mod word;
 
@@ -56,6 +57,11 @@ pub fn nothing_loaded(is_stored: bool) -> Loading
             },
             ipr: zero,
             prs: [0; 24],
+            delivery: Delivery {
+                switch: 0,
+                save: 0,
+                handler: 0,
+            },
         },
     }
 }

@@ -2,6 +2,7 @@
 ghost use mathlib.Core.Bool.{cond};
 ghost use mathlib.Core.Path.{_≡_};
 ghost use Prim.Native.Nat.{_+_, _^_, _<_};
+ghost use Rattle.state.specs.View.{as-delivery};
 ghost use Rattle.machine.specs.Answered.{core-of, Answered-as, Prepared-as};
 use answers::Answered;
 use answers::answer_of;
@@ -9,6 +10,7 @@ use host::record::Registers;
 use run::Reply;
 use segments::translate::Dbr;
 use state::Core;
+use state::Delivery;
 use words::pointer::Pointer;
 use words::pointer::SegmentNumber;
 use words::pointer::WordNumber;
@@ -26,6 +28,7 @@ fn counted(single: bool, total: u64, last: u64) -> u64
 
 // A, DBR and IPR come one by one, the PRs where the host has them. `single`: pointer words as a single step has them.
 pub fn run(
+    delivery: Delivery,
     a: u64,
     address: u64,
     length: u64,
@@ -38,7 +41,7 @@ pub fn run(
     trace: &mut [u64],
     single: bool,
 ) -> Answered
-    ensures { λ x. ⌜ Answered-as single budget (core-of a address length ring segment word) (now (prs .entry)) (now (memory .entry)) (now (trace .entry)) x (now (prs .exit)) (now (memory .exit)) (now (trace .exit)) ⌝ }
+    ensures { λ x. ⌜ Answered-as (as-delivery delivery) single budget (core-of a address length ring segment word) (now (prs .entry)) (now (memory .entry)) (now (trace .entry)) x (now (prs .exit)) (now (memory .exit)) (now (trace .exit)) ⌝ }
 {
     let core = Core {
         a,
@@ -49,11 +52,11 @@ pub fn run(
             word: WordNumber(word),
         },
     };
-    let n = host::start::start_answer(core, prs, memory);
+    let n = host::start::start_answer(delivery, core, prs, memory);
     if n != 0 {
         return answer_of(Reply::Refused(n), core, 0);
     }
-    let y = run::run(core, prs, memory, budget, trace);
+    let y = run::run(delivery, core, prs, memory, budget, trace);
     let reply = y.reply;
     let after = y.core;
     answer_of(reply, after, counted(single, y.total, y.last))
@@ -74,6 +77,7 @@ pub fn prepare(registers: Registers, memory: &mut [u64]) -> Prepared
     let mut prs = registers.prs;
     let mut none: [u64; 0] = [];
     let x = run(
+        registers.delivery,
         core.a,
         core.dbr.address,
         core.dbr.length,

@@ -2,7 +2,7 @@
 use mathlib.Core.Path.{refl}
 use Rattle.model.specs.Run.{single-count}
 use Rattle.model.specs.Cases.{left-by, Holds, about-to-do, about-to, gated, through-pointer, returning, case-12-registers, case-12-words, case-12, pointers-up, through-pointers, case, thirteen, All-hold, Cases-hold}
-use Rattle.model.specs.Readings.{doing, through, with-descriptors, started, ended, stored-one, Readings}
+use Rattle.model.specs.Readings.{doing, through, with-descriptors, started, ended, with-start, stored-one, todays-one, loading, delivering, restoring, Readings}
 use Rattle.model.proofs.Computing.{by-computation}
 
 pub thirteen-cases-hold : Cases-hold thirteen
@@ -46,7 +46,7 @@ thirteen-cases-hold = (
 )
 
 pub readings-hold : Readings
-unfolding by-computation single-count left-by Holds about-to-do about-to through-pointer case-12-registers pointers-up through-pointers doing through with-descriptors started ended stored-one
+unfolding by-computation single-count left-by Holds about-to-do about-to through-pointer case-12-registers pointers-up through-pointers doing through with-descriptors started ended with-start stored-one todays-one loading delivering restoring
 readings-hold =
     record {
       empty-file-is-42 = refl;
@@ -66,6 +66,7 @@ readings-hold =
       last-WD-is-kept = refl;
       stored-44-is-refused = refl;
       stored-4-is-refused = refl;
+      todays-is-not-stored = refl;
       empty-descriptor-segment-at-the-end-passes-4 = refl;
       empty-descriptor-segment-past-the-end-is-4 = refl;
       LDBR-of-the-end-passes-34 = refl;
@@ -96,5 +97,21 @@ readings-hold =
       HLT-with-I-on-has-0 = refl;
       totals-are-sums = refl;
       faulting-step-is-not-in-the-total = refl;
+      unsaved-in-12-words = refl;
+      unsaved-without-W = refl;
+      unsaved-without-V = refl;
+      unsaved-with-the-switch-off = refl;
+      switch-of-2-is-2 = refl;
+      delivered-in-ring-0's-segment = refl;
+      delivered-frame = refl;
+      RCU-above-ring-0-is-33 = refl;
+      RCU-of-12-words-is-15 = refl;
+      RCU-without-R-is-22 = refl;
+      RCU-of-a-DBR-past-the-end-is-34 = refl;
+      RCU-of-PR0-below-IPR-is-52 = refl;
+      RCU-takes-A = refl;
+      RCU-takes-IPR = refl;
+      RCU-takes-PR0 = refl;
+      RCU-takes-PR7 = refl;
       offset-goes-round = refl;
     }

@@ -1,5 +1,5 @@
 -- Registers that pass 2 to 4, and that each change a step makes keeps them so. Assumes nothing.
-use mathlib.Core.Path.{_≡_, refl, _∙_}
+use mathlib.Core.Path.{_≡_, refl, sym, subst}
 use mathlib.Core.Bool.{true}
 use mathlib.Core.List.{List}
 use Prim.Native.Nat.{ℕ, _≤_}
@@ -14,21 +14,21 @@ use Rattle.model.specs.Step.{returned}
 use Rattle.model.proofs.ListLaws.{all-set, all-get, all-map, all-from}
 use Rattle.model.proofs.WordLaws.{Within, in-range-within, within-in-range}
 
-pub record Pointers-fit (count : ℕ) (ipr : Pointer) (prs : List Pointer) : Type 0 where
+pub record Pointers-fit (C : ℕ → Type 0) (ipr : Pointer) (prs : List Pointer) : Type 0 where
   pub ipr-within : Within ipr
   pub prs-in-range : all pointer-in-range prs ≡ true
   pub rings-kept : rings-at-least (ipr .ring) prs ≡ true
-  pub prs-count : length prs ≡ count
+  pub prs-count : C (length prs)
 
 pub record Dbr-fit (size : ℕ) (d : Dbr) : Type 0 where
   pub address-within : d .address ≤ 16777215
   pub fits : dbr-fits size d ≡ true
 
--- for a memory of that size, with that many PRs and what W says of A
-pub record Fit (W : ℕ → Type 0) (size count : ℕ) (r : Registers) : Type 0 where
+-- for a memory of that size, with what W says of A and C of the number of PRs
+pub record Fit (W C : ℕ → Type 0) (size : ℕ) (r : Registers) : Type 0 where
   pub a-has : W (r .a)
   pub dbr-fit : Dbr-fit size (r .dbr)
-  pub pointers-fit : Pointers-fit count (r .ipr) (r .prs)
+  pub pointers-fit : Pointers-fit C (r .ipr) (r .prs)
 
 -- TPR is in range, and in no lower ring than IPR
 pub record Formed (r : Registers) (t : Pointer) : Type 0 where
@@ -46,21 +46,21 @@ raised-within n p g h =
     let x = h .ring-within in record { ring-within = omega arith; segment-within = h .segment-within; word-within = h .word-within }
 
 -- REGISTERS
-module _ {W : ℕ → Type 0} {n c : ℕ} {r : Registers} (h : Fit W n c r) where
+module _ {W C : ℕ → Type 0} {n : ℕ} {r : Registers} (h : Fit W C n r) where
   pub pr-within : (k : ℕ) → Within (pr r k)
   unfolding pr pointer-in-range
   pr-within k = in-range-within _ (all-get pointer-in-range (r .prs) k zero-pointer (h .pointers-fit .prs-in-range) refl)
 
-  pub fit-with-a : (v : ℕ) → W v → Fit W n c (with-a v r)
+  pub fit-with-a : (v : ℕ) → W v → Fit W C n (with-a v r)
   unfolding with-a
   fit-with-a v e = record { a-has = e; dbr-fit = h .dbr-fit; pointers-fit = h .pointers-fit }
 
-  pub fit-with-dbr : (d : Dbr) → Dbr-fit n d → Fit W n c (with-dbr d r)
+  pub fit-with-dbr : (d : Dbr) → Dbr-fit n d → Fit W C n (with-dbr d r)
   unfolding with-dbr
   fit-with-dbr d e = record { a-has = h .a-has; dbr-fit = e; pointers-fit = h .pointers-fit }
 
   -- control moves to t
-  pub fit-with-ipr : (t : Pointer) → Within t → rings-at-least (t .ring) (r .prs) ≡ true → Fit W n c (with-ipr t r)
+  pub fit-with-ipr : (t : Pointer) → Within t → rings-at-least (t .ring) (r .prs) ≡ true → Fit W C n (with-ipr t r)
   unfolding with-ipr
   fit-with-ipr t g e =
       let p = h .pointers-fit in
@@ -70,7 +70,7 @@ module _ {W : ℕ → Type 0} {n c : ℕ} {r : Registers} (h : Fit W n c r) wher
         pointers-fit = record { ipr-within = g; prs-in-range = p .prs-in-range; rings-kept = e; prs-count = p .prs-count };
       }
 
-  pub fit-advanced : Fit W n c (advanced r)
+  pub fit-advanced : Fit W C n (advanced r)
   unfolding advanced moved-by
   fit-advanced = fit-with-ipr (moved-by 1 (r .ipr)) (moved-within 1 (r .ipr) (h .pointers-fit .ipr-within)) (h .pointers-fit .rings-kept)
 
@@ -81,7 +81,7 @@ module _ {W : ℕ → Type 0} {n c : ℕ} {r : Registers} (h : Fit W n c r) wher
       (λ p e. let x = leb-true (r .ipr .ring) (p .ring) e in omega (arith, le-leb)) (r .prs) (h .pointers-fit .rings-kept)
 
   -- a PR becomes p, in no lower ring than q, which IPR becomes at once; IPR's ring does not rise
-  pub fit-called : (k : ℕ) (p q : Pointer) → Within p → Within q → q .ring ≤ p .ring → q .ring ≤ r .ipr .ring → Fit W n c (with-ipr q (with-pr k p r))
+  pub fit-called : (k : ℕ) (p q : Pointer) → Within p → Within q → q .ring ≤ p .ring → q .ring ≤ r .ipr .ring → Fit W C n (with-ipr q (with-pr k p r))
   unfolding with-pr with-prs with-ipr rings-at-least
   fit-called k p q g f l e =
       let ps = h .pointers-fit in
@@ -93,15 +93,15 @@ module _ {W : ℕ → Type 0} {n c : ℕ} {r : Registers} (h : Fit W n c r) wher
               ipr-within = f;
               prs-in-range = all-set pointer-in-range (r .prs) k p (ps .prs-in-range) (within-in-range p g);
               rings-kept = all-set (λ x. leb (q .ring) (x .ring)) (r .prs) k p (rings-at-least-lower (q .ring) e) (le-leb _ _ l);
-              prs-count = length-set (r .prs) k p ∙ ps .prs-count;
+              prs-count = subst C (sym (length-set (r .prs) k p)) (ps .prs-count);
             };
       }
 
-  pub fit-with-pr : (k : ℕ) (t : Pointer) → Formed r t → Fit W n c (with-pr k t r)
+  pub fit-with-pr : (k : ℕ) (t : Pointer) → Formed r t → Fit W C n (with-pr k t r)
   unfolding with-pr with-prs with-ipr
   fit-with-pr k t g = fit-called k t (r .ipr) (g .within) (h .pointers-fit .ipr-within) (g .ring-at-least) (omega arith)
 
-  pub fit-returned : (t : Pointer) → Within t → Fit W n c (returned t r)
+  pub fit-returned : (t : Pointer) → Within t → Fit W C n (returned t r)
   unfolding returned with-prs with-ipr rings-at-least with-ring-at-least
   fit-returned t g =
       let ps = h .pointers-fit in
@@ -117,6 +117,6 @@ module _ {W : ℕ → Type 0} {n c : ℕ} {r : Registers} (h : Fit W n c r) wher
               rings-kept =
                   all-map (λ x. leb (t .ring) (x .ring)) pointer-in-range (with-ring-at-least (t .ring))
                   (λ p e. omega (arith, le-leb)) (r .prs) (ps .prs-in-range);
-              prs-count = length-map (r .prs) (with-ring-at-least (t .ring)) ∙ ps .prs-count;
+              prs-count = subst C (sym (length-map (r .prs) (with-ring-at-least (t .ring)))) (ps .prs-count);
             };
       }

@@ -9,21 +9,30 @@ use lib.Dec.{leb}
 use lib.ListN.{length, take, drop, length-append, length-drop, List·getD-append}
 use lib.Seq.{take-append-le, drop-append-le, drop-at}
 use borrow.Author.Tests.{leb-true, le-leb}
-use Rattle.model.specs.Registers.{Machine}
+use Rattle.model.specs.Registers.{Delivery, Machine}
 use Rattle.model.specs.Questions.{start-questions}
 use Rattle.model.specs.Run.{unless-refused}
-use Rattle.model.specs.Image.{Mark, ME, ST, WD, RN, marked, mark-of, record-size, big-endian, number-at, pointer-at, pointers-at, registers-at, Loading, memory-allowed, address-allowed, address-new, record-questions, with-record, Image, refused-image, loaded, checked, record-on, whole-record-on, marked-on, bytes-on, image-from, image-after}
+use Rattle.model.specs.Image.{Rules, stored, today, Mark, ME, ST, WD, RN, marked, mark-of, start-size, record-size, big-endian, number-at, pointer-at, pointers-at, registers-at, delivery-at, Loading, memory-allowed, address-allowed, address-new, record-questions, with-record, Image, refused-image, loaded, checked, record-on, whole-record-on, marked-on, bytes-on, image-from, image-after}
 use Rattle.model.specs.Records.{Image-is-records, Image-needs-rn}
 use Rattle.model.proofs.BranchLaws.{cond-rel}
 
--- THE RECORDS LEFT suffice: what follows a record is shorter
-pub record-has-a-mark : (k : Mark) → 2 ≤ record-size k
-unfolding record-size
-record-has-a-mark ME = omega arith
-record-has-a-mark ST = omega arith
-record-has-a-mark WD = omega arith
-record-has-a-mark RN = omega arith
+-- A RECORD'S SIZE by any rules: a mark and a number at least, and an ST's registers
+start-has-registers : (v : Rules) → 61 ≤ start-size v
+unfolding start-size
+start-has-registers stored = omega arith
+start-has-registers today = omega arith
 
+pub record-has-a-number : (v : Rules) (k : Mark) → 6 ≤ record-size v k
+unfolding record-size
+record-has-a-number v ME = omega arith
+record-has-a-number v ST = let h = start-has-registers v in omega arith
+record-has-a-number v WD = omega arith
+record-has-a-number v RN = omega arith
+
+pub record-has-a-mark : (v : Rules) (k : Mark) → 2 ≤ record-size v k
+record-has-a-mark v k = let h = record-has-a-number v k in omega arith
+
+-- THE RECORDS LEFT suffice: what follows a record is shorter
 record-on-same : (k : Mark) (l : Loading) (bs : List ℕ) (f g : Loading → Image) → ((j : Loading) → f j ≡ g j) → record-on k l bs f ≡ record-on k l bs g
 unfolding record-on
 record-on-same ME l bs f g h = h _
@@ -36,17 +45,18 @@ whole-record-same : (k : Mark) (l : Loading) (n : ℕ) (bs : List ℕ) (f g : Lo
 unfolding whole-record-on
 whole-record-same k l n bs f g h = ap (unless-refused (record-questions k l n bs) refused-image) (record-on-same k l bs f g h)
 
-rest-is-shorter : (k : Mark) (bs : List ℕ) → leb (record-size k) (length bs) ≡ true → length (drop (record-size k) bs) < length bs
-rest-is-shorter k bs e =
-    let x = record-has-a-mark k in let y = leb-true (record-size k) (length bs) e in let z = length-drop (record-size k) bs in omega arith
+rest-is-shorter : (v : Rules) (k : Mark) (bs : List ℕ) → leb (record-size v k) (length bs) ≡ true → length (drop (record-size v k) bs) < length bs
+rest-is-shorter v k bs e =
+    let x = record-has-a-mark v k in let y = leb-true (record-size v k) (length bs) e in let z = length-drop (record-size v k) bs in omega arith
 
 marked-on-same : (k : Option Mark) (l : Loading) (bs : List ℕ) (f g : Loading → List ℕ → Image) →
     ((j : Loading) (rest : List ℕ) → length rest < length bs → f j rest ≡ g j rest) → marked-on k l bs f ≡ marked-on k l bs g
 unfolding marked-on
 marked-on-same none l bs f g h = refl
 marked-on-same (some k) l bs f g h =
-    cond-rel _≡_ {b = leb (record-size k) (length bs)} refl
-    (λ e. whole-record-same k l (length (drop (record-size k) bs)) bs _ _ (λ j. h j _ (rest-is-shorter k bs e))) (λ _. refl)
+    let size = record-size (l .rules) k in
+    cond-rel _≡_ {b = leb size (length bs)} refl
+    (λ e. whole-record-same k l (length (drop size bs)) bs _ _ (λ j. h j _ (rest-is-shorter (l .rules) k bs e))) (λ _. refl)
 
 bytes-on-same : (l : Loading) (bs : List ℕ) (f g : Loading → List ℕ → Image) →
     ((j : Loading) (rest : List ℕ) → length rest < length bs → f j rest ≡ g j rest) → bytes-on l bs f ≡ bytes-on l bs g
@@ -92,61 +102,68 @@ module _ (one rest : List ℕ) where
   pointers-at-front (suc n) a h =
       ap₂ (λ p ps. p ∷ ps) (pointer-at-front a (omega arith)) (pointers-at-front n (a + 5) (omega arith))
 
-  registers-at-front : 61 ≤ length one → registers-at (one ++ rest) ≡ registers-at one
+  pub registers-at-front : 61 ≤ length one → registers-at (one ++ rest) ≡ registers-at one
   unfolding registers-at
   registers-at-front h =
       rw (number-at-front 2 8 (omega arith), number-at-front 10 4 (omega arith), number-at-front 14 2 (omega arith), pointer-at-front 16 (omega arith), pointers-at-front 8 21 (omega arith))
 
-  record-on-front : (k : Mark) (l : Loading) (f : Loading → Image) → record-size k ≤ length one → record-on k l (one ++ rest) f ≡ record-on k l one f
+  delivery-at-front : (v : Rules) → start-size v ≤ length one → delivery-at v (one ++ rest) ≡ delivery-at v one
+  unfolding delivery-at start-size
+  delivery-at-front stored h = refl
+  delivery-at-front today h = rw (number-at-front 61 1 (omega arith), number-at-front 62 2 (omega arith), number-at-front 64 2 (omega arith))
+
+  record-on-front : (k : Mark) (l : Loading) (f : Loading → Image) → record-size (l .rules) k ≤ length one →
+      record-on k l (one ++ rest) f ≡ record-on k l one f
   unfolding record-on with-record record-size
   record-on-front ME l f h = rw (number-at-front 2 4 (omega arith))
-  record-on-front ST l f h = rw (registers-at-front (omega arith))
+  record-on-front ST l f h = rw (registers-at-front (let y = start-has-registers (l .rules) in omega arith), delivery-at-front (l .rules) h)
   record-on-front WD l f h = rw (number-at-front 2 4 (omega arith), number-at-front 6 8 (omega arith))
   record-on-front RN l f h = rw (number-at-front 2 4 (omega arith))
 
-  questions-front : (k : Mark) (l : Loading) (n : ℕ) → record-size k ≤ length one → record-questions k l n (one ++ rest) ≡ record-questions k l n one
-  unfolding record-questions memory-allowed address-allowed address-new record-size
+  pub questions-front : (k : Mark) (l : Loading) (n : ℕ) → 6 ≤ length one → record-questions k l n (one ++ rest) ≡ record-questions k l n one
+  unfolding record-questions memory-allowed address-allowed address-new
   questions-front ME l n h = rw (number-at-front 2 4 (omega arith))
   questions-front ST l n h = refl
   questions-front WD l n h = rw (number-at-front 2 4 (omega arith))
   questions-front RN l n h = refl
 
-  whole-record-front : (k : Mark) (l : Loading) (n : ℕ) (f : Loading → Image) → record-size k ≤ length one →
+  whole-record-front : (k : Mark) (l : Loading) (n : ℕ) (f : Loading → Image) → record-size (l .rules) k ≤ length one →
       whole-record-on k l n (one ++ rest) f ≡ whole-record-on k l n one f
   unfolding whole-record-on
-  whole-record-front k l n f h = ap₂ (λ q x. unless-refused q refused-image x) (questions-front k l n h) (record-on-front k l f h)
+  whole-record-front k l n f h =
+      ap₂ (λ q x. unless-refused q refused-image x) (questions-front k l n (let y = record-has-a-number (l .rules) k in omega arith)) (record-on-front k l f h)
 
 bytes-are-marked : (l : Loading) (bs : List ℕ) (f : Loading → List ℕ → Image) → 1 ≤ length bs → bytes-on l bs f ≡ marked-on (mark-of bs) l bs f
 unfolding bytes-on
 bytes-are-marked l [] f h = absurd (omega arith)
 bytes-are-marked l (b ∷ bs) f h = refl
 
-whole-is-marked : (k : Mark) (l : Loading) (bs : List ℕ) (f : Loading → List ℕ → Image) → record-size k ≤ length bs →
-    marked-on (some k) l bs f ≡ whole-record-on k l (length (drop (record-size k) bs)) bs (λ j. f j (drop (record-size k) bs))
+whole-is-marked : (k : Mark) (l : Loading) (bs : List ℕ) (f : Loading → List ℕ → Image) → record-size (l .rules) k ≤ length bs →
+    marked-on (some k) l bs f ≡ whole-record-on k l (length (drop (record-size (l .rules) k) bs)) bs (λ j. f j (drop (record-size (l .rules) k) bs))
 unfolding marked-on
 whole-is-marked k l bs f h = rw (le-leb _ _ h)
 
 pub image-is-records : Image-is-records
 image-is-records k l one rest is-marked sized =
-    let two = record-has-a-mark k in
+    let two = record-has-a-mark (l .rules) k in
     let long = length-append one rest in
     let f : Loading → List ℕ → Image = λ j bs. image-after j bs in
     image-record-by-record l (one ++ rest) ∙ bytes-are-marked l (one ++ rest) f (omega arith)
     ∙ ap (λ x. marked-on x l (one ++ rest) f) (mark-of-front one rest (omega arith) ∙ is-marked)
     ∙ whole-is-marked k l (one ++ rest) f (omega arith)
-    ∙ ap (λ z. whole-record-on k l (length z) (one ++ rest) (λ j. image-after j z)) (drop-at one rest (record-size k) sized)
+    ∙ ap (λ z. whole-record-on k l (length z) (one ++ rest) (λ j. image-after j z)) (drop-at one rest (record-size (l .rules) k) sized)
     ∙ whole-record-front one rest k l (length rest) (λ j. image-after j rest) (omega arith)
 
 -- 1 TO 4, once RN has come
-module _ (m : Machine) (b n : ℕ) (e : n ≡ start-questions m) where
-  pub checked-refused : (n ≡ 0 → ⊥) → checked m b ≡ refused-image n
+module _ (v : Delivery) (m : Machine) (b n : ℕ) (e : n ≡ start-questions v m) where
+  pub checked-refused : (n ≡ 0 → ⊥) → checked v m b ≡ refused-image n
   unfolding checked unless-refused
-  checked-refused h = ap (λ a. unless-refused a refused-image (loaded m b)) (sym e) ∙ by-number n h
+  checked-refused h = ap (λ a. unless-refused a refused-image (loaded v m b)) (sym e) ∙ by-number n h
     where
-      by-number : (k : ℕ) → (k ≡ 0 → ⊥) → unless-refused k refused-image (loaded m b) ≡ refused-image k
+      by-number : (k : ℕ) → (k ≡ 0 → ⊥) → unless-refused k refused-image (loaded v m b) ≡ refused-image k
       by-number zero h = absurd (h refl)
       by-number (suc k) h = refl
 
-  pub checked-passed : n ≡ 0 → checked m b ≡ loaded m b
+  pub checked-passed : n ≡ 0 → checked v m b ≡ loaded v m b
   unfolding checked unless-refused
-  checked-passed z = ap (λ a. unless-refused a refused-image (loaded m b)) (sym e ∙ z)
+  checked-passed z = ap (λ a. unless-refused a refused-image (loaded v m b)) (sym e ∙ z)

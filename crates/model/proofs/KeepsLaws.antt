@@ -3,23 +3,24 @@ use Prim.Native.Nat.{ℕ, zero, suc, _+_, _*_, _-_, _^_, _<_}
 use native.Mathlib.Omega.{arith}
 use Rattle.model.specs.Words.{Pointer, pointer-word, Instruction, instruction-in}
 use Rattle.model.specs.Registers.{Registers, pr}
-use Rattle.model.specs.Opcodes.{Access, sets, reads, writes, updates, transfers, calls, returns, loads-dbr, ends-run, sum, difference, count-of-ones, LDA, STA, ADA, SBA, ANA, ORA, XRA, CNT, AOS, LDI, EAP, SPP, TRA, TZE, TMI, CALL, RETURN, LDBR, HLT}
+use Rattle.model.specs.Opcodes.{Access, sets, reads, writes, updates, transfers, calls, returns, loads-dbr, ends-run, restores, sum, difference, count-of-ones, LDA, STA, ADA, SBA, ANA, ORA, XRA, CNT, AOS, LDI, EAP, SPP, TRA, TZE, TMI, CALL, RETURN, LDBR, HLT, RCU}
 use Rattle.model.proofs.WordLaws.{field-within-width, Within, pointer-word-within, bitwise-within, ones-at-most}
 use Rattle.model.proofs.TableLaws.{Each}
 use Rattle.model.proofs.FitLaws.{Fit, Formed, pr-within, fit-with-a, fit-with-pr}
 
 -- THE TABLE: what an access makes of registers and words that fit fits again
-module _ (W : ℕ → Type 0) where
+module _ (W C : ℕ → Type 0) where
   unfoldable pub Keeps-fit : Access → Type 0
-  Keeps-fit (sets f) = (n c w : ℕ) (t : Pointer) (r : Registers) → Fit W n c r → Formed r t → Fit W n c (f (instruction-in w) t r)
+  Keeps-fit (sets f) = (n w : ℕ) (t : Pointer) (r : Registers) → Fit W C n r → Formed r t → Fit W C n (f (instruction-in w) t r)
   Keeps-fit (reads f) = (a w : ℕ) → W w → W (f a w)
-  Keeps-fit (writes f) = (n c : ℕ) (i : Instruction) (r : Registers) → Fit W n c r → W (f i r)
+  Keeps-fit (writes f) = (n : ℕ) (i : Instruction) (r : Registers) → Fit W C n r → W (f i r)
   Keeps-fit (updates f) = (w : ℕ) → W (f w)
   Keeps-fit (transfers f) = Unit {0}
   Keeps-fit calls = Unit {0}
   Keeps-fit returns = Unit {0}
   Keeps-fit loads-dbr = Unit {0}
   Keeps-fit ends-run = Unit {0}
+  Keeps-fit restores = Unit {0}
 
 sum-within : (a w : ℕ) → sum a w < 2 ^ 64
 unfolding sum
@@ -50,13 +51,13 @@ digit-sum (suc zero) y h g = omega arith
 digit-sum (suc (suc x)) y h g = absurd (omega arith)
 
 -- W is what is known of words: it holds of all below 2^64
-module _ (W : ℕ → Type 0) (word : (v : ℕ) → v < 2 ^ 64 → W v) where
-  pub table-keeps-fit : Each (λ o. Keeps-fit W (o .access))
-  unfolding Keeps-fit LDA STA ADA SBA ANA ORA XRA CNT AOS LDI EAP SPP TRA TZE TMI CALL RETURN LDBR HLT
+module _ (W C : ℕ → Type 0) (word : (v : ℕ) → v < 2 ^ 64 → W v) where
+  pub table-keeps-fit : Each (λ o. Keeps-fit W C (o .access))
+  unfolding Keeps-fit LDA STA ADA SBA ANA ORA XRA CNT AOS LDI EAP SPP TRA TZE TMI CALL RETURN LDBR HLT RCU
   table-keeps-fit =
       record {
         lda = λ a w h. h;
-        sta = λ n c i r h. h .a-has;
+        sta = λ n i r h. h .a-has;
         ada = λ a w h. word _ (sum-within a w);
         sba = λ a w h. word _ (difference-within a w);
         ana = λ a w h. word _ (bitwise-within _ digit-product 64 a w);
@@ -64,9 +65,9 @@ module _ (W : ℕ → Type 0) (word : (v : ℕ) → v < 2 ^ 64 → W v) where
         xra = λ a w h. word _ (bitwise-within _ (λ x y k l. omega arith) 64 a w);
         cnt = λ a w h. word _ (count-within w);
         aos = λ w. word _ (sum-within w 1);
-        ldi = λ n c w t r h g. fit-with-a h (instruction-in w .lit) (word _ (literal-within w));
-        eap = λ n c w t r h g. fit-with-pr h (instruction-in w .reg) t g;
-        spp = λ n c i r h. word _ (stored-pointer-within (pr r (i .reg)) (pr-within h (i .reg)));
+        ldi = λ n w t r h g. fit-with-a h (instruction-in w .lit) (word _ (literal-within w));
+        eap = λ n w t r h g. fit-with-pr h (instruction-in w .reg) t g;
+        spp = λ n i r h. word _ (stored-pointer-within (pr r (i .reg)) (pr-within h (i .reg)));
         tra = tt;
         tze = tt;
         tmi = tt;
@@ -74,4 +75,5 @@ module _ (W : ℕ → Type 0) (word : (v : ℕ) → v < 2 ^ 64 → W v) where
         return = tt;
         ldbr = tt;
         hlt = tt;
+        rcu = tt;
       }

@@ -2,15 +2,15 @@
 use mathlib.Core.Path.{_≡_, refl, sym, _∙_, ap, ap₂, subst}
 use mathlib.Core.Bool.{Bool, true, false, _&&_, _||_, cond}
 use mathlib.Core.Option.{some}
-use mathlib.Core.List.{List, [], _∷_, _++_, append-nil, append-assoc}
+use mathlib.Core.List.{List, [], _∷_, _++_, map, append-nil, append-assoc}
 use Prim.Native.Nat.{ℕ, _<_}
 use lib.Dec.{ltb, eqb}
 use borrow.Author.Tests.{eqb-true, lt-ltb, eq-eqb}
-use Rattle.model.specs.Image.{Mark, WD, mark-of, number-at}
-use Rattle.model.specs.Convert.{records, joined, left-over, is-word, writes, some-writes, superseded, last-of-each, compacted}
-use Rattle.model.specs.Converted.{Sublist, none-left, kept, dropped, One-an-address}
+use Rattle.model.specs.Image.{Rules, stored, Mark, WD, mark-of, number-at}
+use Rattle.model.specs.Convert.{records, joined, left-over, is-word, writes, some-writes, superseded, last-of-each, kept-of, renewed, compacted}
+use Rattle.model.specs.Converted.{Sublist, none-left, kept, dropped, One-an-address, with-todays-start}
 use Rattle.model.proofs.BranchLaws.{cond-holds, and-left, and-right, or-left}
-use Rattle.model.proofs.CutLaws.{All-whole, cut, no-record, joined-front, left-over-after}
+use Rattle.model.proofs.CutLaws.{All-whole, joined-front, left-over-after, joined-records, joined-left-over, cut}
 
 or-known : (a b : Bool) → (a ≡ true → b ≡ true) → (a || b) ≡ b
 or-known true b f = sym (f refl)
@@ -92,42 +92,48 @@ last-of-each-once (x ∷ xs) =
     (λ e.
     (ap (superseded x) (sym (append-nil (last-of-each xs))) ∙ superseded-same x xs [] ∙ ap (superseded x) (append-nil xs) ∙ e, last-of-each-once xs))
 
-pub once-is-last : (xs : List (List ℕ)) → One-an-address xs → last-of-each xs ≡ xs
-unfolding last-of-each One-an-address
-once-is-last [] h = refl
-once-is-last (x ∷ xs) h = rw (h .0) (ap (λ ys. x ∷ ys) (once-is-last xs (h .1)))
-
-pub last-of-each-whole : (xs : List (List ℕ)) → All-whole xs → All-whole (last-of-each xs)
+pub last-of-each-whole : (v : Rules) (xs : List (List ℕ)) → All-whole v xs → All-whole v (last-of-each xs)
 unfolding last-of-each
-last-of-each-whole [] w = tt
-last-of-each-whole (x ∷ xs) w =
-    cond-holds All-whole (superseded x xs) (λ _. last-of-each-whole xs (w .1)) (λ _. (w .0, last-of-each-whole xs (w .1)))
+last-of-each-whole v [] w = tt
+last-of-each-whole v (x ∷ xs) w =
+    cond-holds (All-whole v) (superseded x xs) (λ _. last-of-each-whole v xs (w .1)) (λ _. (w .0, last-of-each-whole v xs (w .1)))
 
 -- BYTES: records in front, and whatever comes after them
-pub compacted-after : (xs : List (List ℕ)) (bs : List ℕ) → All-whole xs → compacted (joined xs ++ bs) ≡ joined (last-of-each (xs ++ records bs)) ++ left-over bs
-unfolding compacted
-compacted-after xs bs w = ap₂ (λ ys zs. joined (last-of-each ys) ++ zs) (joined-front xs bs w) (left-over-after xs bs w)
+kept-after : (xs : List (List ℕ)) (bs : List ℕ) → All-whole stored xs →
+    kept-of (joined xs ++ bs) ≡ joined (last-of-each (xs ++ records stored bs)) ++ left-over stored bs
+unfolding kept-of
+kept-after xs bs w = ap₂ (λ ys zs. joined (last-of-each ys) ++ zs) (joined-front stored xs bs w) (left-over-after stored xs bs w)
+
+module _ (bs : List ℕ) where
+  kept-whole : All-whole stored (last-of-each (records stored bs))
+  kept-whole = last-of-each-whole stored (records stored bs) (cut stored bs .all-whole)
+
+  pub kept-records : records stored (kept-of bs) ≡ last-of-each (records stored bs)
+  unfolding kept-of
+  kept-records = joined-records stored (last-of-each (records stored bs)) (left-over stored bs) kept-whole (cut stored bs .none-after)
+
+  pub kept-left-over : left-over stored (kept-of bs) ≡ left-over stored bs
+  unfolding kept-of
+  kept-left-over = joined-left-over stored (last-of-each (records stored bs)) (left-over stored bs) kept-whole (cut stored bs .none-after)
+
+  -- the five bytes may be added to the ST that was kept
+  pub compacted-in-two : compacted bs ≡ with-todays-start (kept-of bs)
+  unfolding compacted with-todays-start
+  compacted-in-two = sym (ap₂ (λ xs zs. joined (map renewed xs) ++ zs) kept-records kept-left-over)
 
 -- bytes may be compacted before the rest has come
-pub compacted-early : (bs rest : List ℕ) → compacted (compacted bs ++ rest) ≡ compacted (bs ++ rest)
-unfolding compacted
-compacted-early bs rest =
-    let c = cut bs in
-    let xs = records bs in
-    let after = left-over bs ++ rest in
-    ap compacted (append-assoc (joined (last-of-each xs)) (left-over bs) rest)
-    ∙ compacted-after (last-of-each xs) after (last-of-each-whole xs (c .all-whole))
-    ∙ ap (λ ys. joined ys ++ left-over after) (last-of-each-early xs (records after))
-    ∙ sym (compacted-after xs after (c .all-whole))
-    ∙ ap compacted (sym (append-assoc (joined xs) (left-over bs) rest) ∙ ap (λ zs. zs ++ rest) (c .same))
+module _ (bs rest : List ℕ) where
+  pub kept-early : kept-of (kept-of bs ++ rest) ≡ kept-of (bs ++ rest)
+  unfolding kept-of
+  kept-early =
+      let c = cut stored bs in
+      let xs = records stored bs in
+      let after = left-over stored bs ++ rest in
+      ap kept-of (append-assoc (joined (last-of-each xs)) (left-over stored bs) rest)
+      ∙ kept-after (last-of-each xs) after (kept-whole bs)
+      ∙ ap (λ ys. joined ys ++ left-over stored after) (last-of-each-early xs (records stored after))
+      ∙ sym (kept-after xs after (c .all-whole))
+      ∙ ap kept-of (sym (append-assoc (joined xs) (left-over stored bs) rest) ∙ ap (λ zs. zs ++ rest) (c .same))
 
-pub compacted-once : (bs : List ℕ) → One-an-address (records bs) → compacted bs ≡ bs
-unfolding compacted
-compacted-once bs h = ap (λ xs. joined xs ++ left-over bs) (once-is-last (records bs) h) ∙ cut bs .same
-
-pub compacted-records : (bs : List ℕ) → records (compacted bs) ≡ last-of-each (records bs)
-unfolding compacted
-compacted-records bs =
-    let c = cut bs in
-    joined-front (last-of-each (records bs)) (left-over bs) (last-of-each-whole (records bs) (c .all-whole))
-    ∙ ap (λ ys. last-of-each (records bs) ++ ys) (no-record (left-over bs) (c .none-after)) ∙ append-nil (last-of-each (records bs))
+  pub compacted-early : compacted (kept-of bs ++ rest) ≡ compacted (bs ++ rest)
+  compacted-early = compacted-in-two (kept-of bs ++ rest) ∙ ap with-todays-start kept-early ∙ sym (compacted-in-two (bs ++ rest))

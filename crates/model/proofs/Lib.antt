@@ -11,7 +11,10 @@ pub mod FitLaws
 pub mod KeepsLaws
 pub mod SoundLaws
 pub mod FaultLaws
+pub mod NumberLaws
+pub mod DeliverLaws
 pub mod RunLaws
+pub mod DeliveredLaws
 pub mod EndsLaws
 pub mod CountLaws
 pub mod ImageLaws

@@ -8,7 +8,7 @@ use lib.Dec.{eqb}
 use lib.ListN.{length, set, length-set}
 use lib.Seq.{set-set, set-comm}
 use borrow.Author.Tests.{eqb-true, eqb-false}
-use Rattle.model.specs.Registers.{Machine}
+use Rattle.model.specs.Registers.{Delivery, Machine}
 use Rattle.model.specs.Run.{unless-refused}
 use Rattle.model.specs.Image.{Mark, ME, ST, WD, RN, mark-of, number-at, stored, Loading, has, memory-of, or-else, in-order, address-allowed, unless-written, address-new, record-questions, with-written, with-word, with-record, Image, loaded, record-on, whole-record-on, image-after}
 use Rattle.model.specs.Convert.{joined, is-word, writes, some-writes, superseded, last-of-each}
@@ -22,6 +22,7 @@ record Same-but (a : ℕ) (l j : Loading) : Type 0 where
   rules-first : l .rules ≡ stored
   rules-second : j .rules ≡ stored
   registers-same : l .registers ≡ j .registers
+  delivery-same : l .delivery ≡ j .delivery
   written-same : l .written ≡ j .written
   has-same : has (l .memory) ≡ has (j .memory)
   length-same : length (memory-of l) ≡ length (memory-of j)
@@ -37,11 +38,11 @@ module _ (a : ℕ) (l j : Loading) (s : Same-but a l j) where
 
   with-memory-same : (x : List ℕ) → with-record ME l x ≡ with-record ME j x
   unfolding with-record
-  with-memory-same x = rw (s .rules-first, s .rules-second, s .written-same, s .registers-same) refl
+  with-memory-same x = rw (s .rules-first, s .rules-second, s .written-same, s .registers-same, s .delivery-same) refl
 
   with-its-word : (v : ℕ) → with-word a v l ≡ with-word a v j
   unfolding with-word with-written memory-of
-  with-its-word v = rw (s .rules-first, s .rules-second, s .written-same, s .registers-same, s .words-same v) refl
+  with-its-word v = rw (s .rules-first, s .rules-second, s .written-same, s .registers-same, s .delivery-same, s .words-same v) refl
 
   with-start : (x : List ℕ) → Same-but a (with-record ST l x) (with-record ST j x)
   unfolding with-record memory-of
@@ -50,6 +51,7 @@ module _ (a : ℕ) (l j : Loading) (s : Same-but a l j) where
         rules-first = s .rules-first;
         rules-second = s .rules-second;
         registers-same = refl;
+        delivery-same = rw (s .rules-first, s .rules-second) refl;
         written-same = s .written-same;
         has-same = s .has-same;
         length-same = s .length-same;
@@ -63,6 +65,7 @@ module _ (a : ℕ) (l j : Loading) (s : Same-but a l j) where
         rules-first = s .rules-first;
         rules-second = s .rules-second;
         registers-same = s .registers-same;
+        delivery-same = s .delivery-same;
         written-same = rw (s .rules-first, s .rules-second) (s .written-same);
         has-same = refl;
         length-same = length-set (memory-of l) c v ∙ s .length-same ∙ sym (length-set (memory-of j) c v);
@@ -70,7 +73,7 @@ module _ (a : ℕ) (l j : Loading) (s : Same-but a l j) where
       }
 
 -- one record more, where what comes after it is alike
-module _ (a : ℕ) (l j : Loading) (s : Same-but a l j) (x : List ℕ) (xs : List (List ℕ)) (t : List ℕ) (all : All-whole xs)
+module _ (a : ℕ) (l j : Loading) (s : Same-but a l j) (x : List ℕ) (xs : List (List ℕ)) (t : List ℕ) (all : All-whole stored xs)
     (h : some-writes a (x ∷ xs) ≡ true)
     (more : (i o : Loading) → Same-but a i o → some-writes a xs ≡ true → image-after i (joined xs ++ t) ≡ image-after o (joined xs ++ t)) where
   abbrev onward : Loading → Image
@@ -84,7 +87,7 @@ module _ (a : ℕ) (l j : Loading) (s : Same-but a l j) (x : List ℕ) (xs : Lis
   unfolding some-writes
   some-follow g = by-records xs all g
     where
-      by-records : (ys : List (List ℕ)) → All-whole ys → some-writes a ys ≡ true → length (joined ys ++ t) ≡ 0 → ⊥
+      by-records : (ys : List (List ℕ)) → All-whole stored ys → some-writes a ys ≡ true → length (joined ys ++ t) ≡ 0 → ⊥
       by-records [] w g e = absurd (false≢true g)
       by-records (y ∷ ys) w g e = records-have-bytes y ys t (w .0) e
 
@@ -105,17 +108,17 @@ module _ (a : ℕ) (l j : Loading) (s : Same-but a l j) (x : List ℕ) (xs : Lis
   overwritten-on WD q z = overwritten-word q
   overwritten-on RN q z = absurd (some-follow (later RN q refl) (last-has-none l _ (ordered RN l _ x z)))
 
-overwritten-same : (a : ℕ) (l j : Loading) (xs : List (List ℕ)) (t : List ℕ) → Same-but a l j → All-whole xs → some-writes a xs ≡ true →
+overwritten-same : (a : ℕ) (l j : Loading) (xs : List (List ℕ)) (t : List ℕ) → Same-but a l j → All-whole stored xs → some-writes a xs ≡ true →
     image-after l (joined xs ++ t) ≡ image-after j (joined xs ++ t)
 unfolding some-writes
 overwritten-same a l j [] t s w h = absurd (false≢true h)
 overwritten-same a l j (x ∷ xs) t s w h =
     let n = length (joined xs ++ t) in
     let f : Loading → Image = λ i. image-after i (joined xs ++ t) in
-    image-front l x xs t (w .0)
-    ∙ whole-same (w .0 .mark) l j n n x f f (questions-same a l j s (w .0 .mark) n x)
+    image-front l (s .rules-first) x xs t (w .0)
+    ∙ whole-same (w .0 .mark) l j n n x x f f (questions-same a l j s (w .0 .mark) n x)
     (overwritten-on a l j s x xs t (w .1) h (λ i o r g. overwritten-same a i o xs t r (w .1) g) (w .0 .mark) (w .0 .is-marked))
-    ∙ sym (image-front j x xs t (w .0))
+    ∙ sym (image-front j (s .rules-second) x xs t (w .0))
 
 -- THE LAST OF EACH is as all of them, by the stored rules
 module _ (l : Loading) (v : l .rules ≡ stored) where
@@ -126,6 +129,7 @@ module _ (l : Loading) (v : l .rules ≡ stored) where
         rules-first = v;
         rules-second = v;
         registers-same = refl;
+        delivery-same = refl;
         written-same = rw v refl;
         has-same = h;
         length-same = sym (length-set (memory-of l) a c);
@@ -140,23 +144,23 @@ questions-before ST l n p x z q = q
 questions-before WD l n p x z q = q
 questions-before RN l n p x z q = let e = last-has-none l n (ordered RN l n x q) in rw (z e) (rw e at q)
 
-accepted-before : (k : Mark) (l : Loading) (n p : ℕ) (x : List ℕ) (f g : Loading → Image) (m : Machine) (b : ℕ) →
-    record-questions k l n x ≡ 0 → record-on k l x f ≡ loaded m b → ((j : Loading) → j .rules ≡ l .rules → f j ≡ loaded m b → g j ≡ loaded m b) → (n ≡ 0 → p ≡ 0) →
-    whole-record-on k l p x g ≡ loaded m b
+accepted-before : (k : Mark) (l : Loading) (n p : ℕ) (x : List ℕ) (f g : Loading → Image) (d : Delivery) (m : Machine) (b : ℕ) →
+    record-questions k l n x ≡ 0 → record-on k l x f ≡ loaded d m b → ((j : Loading) → j .rules ≡ l .rules → f j ≡ loaded d m b → g j ≡ loaded d m b) → (n ≡ 0 → p ≡ 0) →
+    whole-record-on k l p x g ≡ loaded d m b
 unfolding whole-record-on unless-refused record-on with-record with-word
-accepted-before ME l n p x f g m b q e h z = rw (questions-before ME l n p x z q) (h (with-record ME l x) refl e)
-accepted-before ST l n p x f g m b q e h z = rw (questions-before ST l n p x z q) (h (with-record ST l x) refl e)
-accepted-before WD l n p x f g m b q e h z = rw (questions-before WD l n p x z q) (h (with-record WD l x) refl e)
-accepted-before RN l n p x f g m b q e h z = rw (questions-before RN l n p x z q) e
+accepted-before ME l n p x f g d m b q e h z = rw (questions-before ME l n p x z q) (h (with-record ME l x) refl e)
+accepted-before ST l n p x f g d m b q e h z = rw (questions-before ST l n p x z q) (h (with-record ST l x) refl e)
+accepted-before WD l n p x f g d m b q e h z = rw (questions-before WD l n p x z q) (h (with-record WD l x) refl e)
+accepted-before RN l n p x f g d m b q e h z = rw (questions-before RN l n p x z q) e
 
-none-before-none : (xs : List (List ℕ)) (t : List ℕ) → All-whole xs → length (joined xs ++ t) ≡ 0 → length (joined (last-of-each xs) ++ t) ≡ 0
+none-before-none : (xs : List (List ℕ)) (t : List ℕ) → All-whole stored xs → length (joined xs ++ t) ≡ 0 → length (joined (last-of-each xs) ++ t) ≡ 0
 unfolding last-of-each
 none-before-none [] t w e = e
 none-before-none (x ∷ xs) t w e = absurd (records-have-bytes x xs t (w .0) e)
 
 -- a dropped record: what it wrote is written again
-module _ (l : Loading) (v : l .rules ≡ stored) (x : List ℕ) (xs : List (List ℕ)) (t : List ℕ) (m : Machine) (b : ℕ) (all : All-whole xs)
-    (more : (j : Loading) → j .rules ≡ stored → image-after j (joined xs ++ t) ≡ loaded m b → image-after j (joined (last-of-each xs) ++ t) ≡ loaded m b)
+module _ (l : Loading) (v : l .rules ≡ stored) (x : List ℕ) (xs : List (List ℕ)) (t : List ℕ) (d : Delivery) (m : Machine) (b : ℕ) (all : All-whole stored xs)
+    (more : (j : Loading) → j .rules ≡ stored → image-after j (joined xs ++ t) ≡ loaded d m b → image-after j (joined (last-of-each xs) ++ t) ≡ loaded d m b)
     (s : superseded x xs ≡ true) where
   a : ℕ
   a = number-at 2 4 x
@@ -172,26 +176,26 @@ module _ (l : Loading) (v : l .rules ≡ stored) (x : List ℕ) (xs : List (List
       ∙ and-right (writes (number-at 2 4 x) x) (some-writes (number-at 2 4 x) xs) s
 
   dropped-loads : (k : Mark) → mark-of x ≡ some k → record-questions k l (length (joined xs ++ t)) x ≡ 0 →
-      record-on k l x (λ j. image-after j (joined xs ++ t)) ≡ loaded m b → image-after l (joined (last-of-each xs) ++ t) ≡ loaded m b
+      record-on k l x (λ j. image-after j (joined xs ++ t)) ≡ loaded d m b → image-after l (joined (last-of-each xs) ++ t) ≡ loaded d m b
   unfolding record-on with-record in-order is-word a
   dropped-loads ME q z e = absurd (false≢true (sym (not-a-word ME a x q refl) ∙ it-writes))
   dropped-loads ST q z e = absurd (false≢true (sym (not-a-word ST a x q refl) ∙ it-writes))
   dropped-loads WD q z e =
       let c = number-at 6 8 x in
-      overwritten-same a l (with-word a c l) (last-of-each xs) t (its-word-may-wait l v a c (ordered WD l _ x z)) (last-of-each-whole xs all) written-again
+      overwritten-same a l (with-word a c l) (last-of-each xs) t (its-word-may-wait l v a c (ordered WD l _ x z)) (last-of-each-whole stored xs all) written-again
       ∙ more (with-word a c l) (unfold with-word in v) e
   dropped-loads RN q z e = absurd (false≢true (sym (not-a-word RN a x q refl) ∙ it-writes))
 
-pub last-of-each-loads : (l : Loading) (xs : List (List ℕ)) (t : List ℕ) (m : Machine) (b : ℕ) → l .rules ≡ stored → All-whole xs →
-    image-after l (joined xs ++ t) ≡ loaded m b → image-after l (joined (last-of-each xs) ++ t) ≡ loaded m b
+pub last-of-each-loads : (l : Loading) (xs : List (List ℕ)) (t : List ℕ) (d : Delivery) (m : Machine) (b : ℕ) → l .rules ≡ stored → All-whole stored xs →
+    image-after l (joined xs ++ t) ≡ loaded d m b → image-after l (joined (last-of-each xs) ++ t) ≡ loaded d m b
 unfolding last-of-each
-last-of-each-loads l [] t m b v w e = e
-last-of-each-loads l (x ∷ xs) t m b v w e =
-    let p = passed l x xs t m b (w .0) e in
-    let more : (j : Loading) → j .rules ≡ stored → image-after j (joined xs ++ t) ≡ loaded m b → image-after j (joined (last-of-each xs) ++ t) ≡ loaded m b =
-    λ j r f. last-of-each-loads j xs t m b r (w .1) f in
-    cond-holds (λ ys. image-after l (joined ys ++ t) ≡ loaded m b) (superseded x xs)
-    (λ s. dropped-loads l v x xs t m b (w .1) more s (w .0 .mark) (w .0 .is-marked) (p .0) (p .1))
+last-of-each-loads l [] t d m b v w e = e
+last-of-each-loads l (x ∷ xs) t d m b v w e =
+    let p = passed l v x xs t d m b (w .0) e in
+    let more : (j : Loading) → j .rules ≡ stored → image-after j (joined xs ++ t) ≡ loaded d m b → image-after j (joined (last-of-each xs) ++ t) ≡ loaded d m b =
+    λ j r f. last-of-each-loads j xs t d m b r (w .1) f in
+    cond-holds (λ ys. image-after l (joined ys ++ t) ≡ loaded d m b) (superseded x xs)
+    (λ s. dropped-loads l v x xs t d m b (w .1) more s (w .0 .mark) (w .0 .is-marked) (p .0) (p .1))
     (λ _.
-    image-front l x (last-of-each xs) t (w .0)
-    ∙ accepted-before (w .0 .mark) l _ _ x _ _ m b (p .0) (p .1) (λ j r f. more j (r ∙ v) f) (none-before-none xs t (w .1)))
+    image-front l v x (last-of-each xs) t (w .0)
+    ∙ accepted-before (w .0 .mark) l _ _ x _ _ d m b (p .0) (p .1) (λ j r f. more j (r ∙ v) f) (none-before-none xs t (w .1)))

@@ -7,7 +7,7 @@ use lib.Dec.{leb}
 use borrow.Author.Tests.{ltb-true, leb-true, eqb-true}
 use Rattle.model.specs.Words.{Descriptor, Pointer}
 use Rattle.model.specs.Registers.{Dbr}
-use Rattle.model.specs.Questions.{ask, then-ask, segment-questions, use-questions, may-execute, may-read, may-write, fetch-questions, read-questions, write-questions, transfer-questions, new-ring, call-questions}
+use Rattle.model.specs.Questions.{ask, then-ask, segment-questions, word-questions, use-questions, may-execute, may-read, may-write, fetch-questions, read-questions, write-questions, transfer-questions, new-ring, call-questions}
 use Rattle.model.proofs.BranchLaws.{and-left, and-right}
 
 pub ask-yes : (b : Bool) (n x : ℕ) → ask b (suc n) x ≡ 0 → (b ≡ true) × (x ≡ 0)
@@ -43,7 +43,7 @@ unfolding use-questions
 use-passes-segment n b p d e = then-ask-yes _ _ e .0
 
 pub word-within-segment : (n : ℕ) (b : Dbr) (p : Pointer) (d : Descriptor) → use-questions n b p d ≡ 0 → p .word < d .length
-unfolding use-questions
+unfolding use-questions word-questions
 word-within-segment n b p d e = ltb-true _ _ (ask-yes _ _ _ (then-ask-yes _ _ e .1) .0)
 
 -- 21: E on and the ring in the execute bracket

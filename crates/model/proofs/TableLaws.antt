@@ -6,7 +6,7 @@ use mathlib.Core.Option.{Option, none, some}
 use Prim.Native.Nat.{ℕ}
 use lib.Dec.{eqb}
 use borrow.Author.Tests.{eqb-true, eqb-false, ne-eqb}
-use Rattle.model.specs.Opcodes.{Opcode, LDA, STA, ADA, SBA, ANA, ORA, XRA, CNT, AOS, LDI, EAP, SPP, TRA, TZE, TMI, CALL, RETURN, LDBR, HLT, opcodes, entry, decoded}
+use Rattle.model.specs.Opcodes.{Opcode, LDA, STA, ADA, SBA, ANA, ORA, XRA, CNT, AOS, LDI, EAP, SPP, TRA, TZE, TMI, CALL, RETURN, LDBR, HLT, RCU, opcodes, entry, decoded}
 
 -- a rule, one line an opcode
 pub record Each (P : Opcode → Type 0) : Type 0 where
@@ -29,6 +29,7 @@ pub record Each (P : Opcode → Type 0) : Type 0 where
   pub return : P RETURN
   pub ldbr : P LDBR
   pub hlt : P HLT
+  pub rcu : P RCU
 
 -- of an opcode, where there is one
 abbrev pub If-there : (Opcode → Type 0) → Option Opcode → Type 0
@@ -55,14 +56,14 @@ module _ (P : Opcode → Type 0) (n : ℕ) where
       on-entry LDA _ (e .lda) (on-entry STA _ (e .sta) (on-entry ADA _ (e .ada) (on-entry SBA _ (e .sba) (on-entry ANA _ (e .ana)
       (on-entry ORA _ (e .ora) (on-entry XRA _ (e .xra) (on-entry CNT _ (e .cnt) (on-entry AOS _ (e .aos) (on-entry LDI _ (e .ldi)
       (on-entry EAP _ (e .eap) (on-entry SPP _ (e .spp) (on-entry TRA _ (e .tra) (on-entry TZE _ (e .tze) (on-entry TMI _ (e .tmi)
-      (on-entry CALL _ (e .call) (on-entry RETURN _ (e .return) (on-entry LDBR _ (e .ldbr) (on-entry HLT _ (e .hlt) no-entry))))))))))))))))))
+      (on-entry CALL _ (e .call) (on-entry RETURN _ (e .return) (on-entry LDBR _ (e .ldbr) (on-entry HLT _ (e .hlt) (on-entry RCU _ (e .rcu) no-entry)))))))))))))))))))
 
 -- OF EVERY NUMBER: one that the table has, or one that it has not
 abbrev pub Outside : (number : ℕ) → Type 0
 Outside n = Each (λ o. n ≡ o .number → ⊥)
 
 pub outside-not-decoded : (n : ℕ) → Outside n → decoded n ≡ none
-unfolding decoded opcodes entry LDA STA ADA SBA ANA ORA XRA CNT AOS LDI EAP SPP TRA TZE TMI CALL RETURN LDBR HLT
+unfolding decoded opcodes entry LDA STA ADA SBA ANA ORA XRA CNT AOS LDI EAP SPP TRA TZE TMI CALL RETURN LDBR HLT RCU
 outside-not-decoded n out =
     rw (
       ne-eqb n 1 (out .lda),
@@ -84,6 +85,7 @@ outside-not-decoded n out =
       ne-eqb n 33 (out .return),
       ne-eqb n 40 (out .ldbr),
       ne-eqb n 41 (out .hlt),
+      ne-eqb n 42 (out .rcu),
     ) refl
 
 on-number : (P : ℕ → Type 0) (n : ℕ) (o : Opcode) → P (o .number) → ((n ≡ o .number → ⊥) → P n) → P n
@@ -114,6 +116,7 @@ each-number P e other n =
     on-number P n RETURN (e .return) λ not-return.
     on-number P n LDBR (e .ldbr) λ not-ldbr.
     on-number P n HLT (e .hlt) λ not-hlt.
+    on-number P n RCU (e .rcu) λ not-rcu.
     other n record {
       lda = not-lda;
       sta = not-sta;
@@ -134,4 +137,5 @@ each-number P e other n =
       return = not-return;
       ldbr = not-ldbr;
       hlt = not-hlt;
+      rcu = not-rcu;
     }

@@ -28,7 +28,7 @@ call-wrote text buffer = record { answer = pos (length text); buffer = text ++ d
 -- THE BENCH'S CALL. 45, last: has the buffer 64 × (budget + 1) bytes?
 unfoldable pub bench-on : Image → (buffer : List ℕ) → Called
 bench-on (refused-image n) buffer = call-refused n buffer
-bench-on (loaded m b) buffer = cond (leb (64 * (b + 1)) (length buffer)) (call-wrote (listing b m) buffer) (call-refused 45 buffer)
+bench-on (loaded v m b) buffer = cond (leb (64 * (b + 1)) (length buffer)) (call-wrote (listing v b m) buffer) (call-refused 45 buffer)
 
 unfoldable pub bench : (bytes buffer : List ℕ) → Called
 bench bs buffer = bench-on (image bs) buffer

@@ -8,7 +8,7 @@ use Prim.Native.String.{String}
 use lib.Dec.{eqb}
 use lib.ListN.{getD, replicate}
 use Rattle.model.specs.Words.{Pointer, pointer-in, indirect-in, pointer-word}
-use Rattle.model.specs.Registers.{Registers, Machine, machine, pr, with-pr}
+use Rattle.model.specs.Registers.{Registers, Delivery, no-delivery, Machine, machine, pr, with-pr}
 use Rattle.model.specs.Opcodes.{Opcode, LDA, STA, EAP, CALL, RETURN}
 use Rattle.model.specs.Program.{Outcome, faults, completes, halts}
 use Rattle.model.specs.Step.{step}
@@ -30,8 +30,9 @@ pub data Claim : Type 0 where
   word-becomes : Machine → (address value : ℕ) → Claim
   -- a single step answers with so many pointer words, whether it completes or faults
   step-counts : Machine → (pointers : ℕ) → Claim
-  -- the run's listing, and the text of an image; a stored image is converted to this one, or gives this text
+  -- the run's listing, without and with delivery, and the text of an image; a stored image is converted to this one, or gives this text
   run-lists : (budget : ℕ) → Machine → String → Claim
+  delivery-lists : Delivery → (budget : ℕ) → Machine → String → Claim
   image-prints : (bytes : List ℕ) → String → Claim
   image-converts : (bytes new : List ℕ) → Claim
 
@@ -47,8 +48,9 @@ Holds (ipr-becomes m p) = left-by (λ k. k .registers .ipr) (step m) ≡ some p
 Holds (pr-becomes m n p) = left-by (λ k. pr (k .registers) n) (step m) ≡ some p
 Holds (a-becomes m v) = left-by (λ k. k .registers .a) (step m) ≡ some v
 Holds (word-becomes m x v) = left-by (λ k. getD (k .memory) x 0) (step m) ≡ some v
-Holds (step-counts m n) = single-count m ≡ n
-Holds (run-lists b m s) = listing b m ≡ ascii s
+Holds (step-counts m n) = single-count no-delivery m ≡ n
+Holds (run-lists b m s) = listing no-delivery b m ≡ ascii s
+Holds (delivery-lists v b m s) = listing v b m ≡ ascii s
 Holds (image-prints bs s) = image-text bs ≡ ascii s
 Holds (image-converts bs new) = convert bs ≡ new
 

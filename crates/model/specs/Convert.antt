@@ -1,39 +1,39 @@
--- 02, L1: what `convert` makes of a stored image. Assumes nothing: these are definitions.
+-- 02, L1 and L4: what `convert` makes of a stored image. Assumes nothing: these are definitions.
 use mathlib.Core.Bool.{Bool, true, false, _&&_, _||_, cond}
-use mathlib.Core.List.{List, [], _∷_, _++_}
+use mathlib.Core.List.{List, [], _∷_, _++_, map}
 use mathlib.Core.Option.{Option, none, some}
-use Prim.Native.Nat.{ℕ, zero, suc}
+use Prim.Native.Nat.{ℕ, zero, suc, _+_, _-_}
 use lib.Dec.{ltb, leb, eqb}
-use lib.ListN.{length, take, drop}
-use Rattle.model.specs.Image.{Mark, ME, ST, WD, RN, mark-of, record-size, number-at, Loading, nothing-loaded, stored, Image, refused-image, loaded, image-after, stored-image}
+use lib.ListN.{length, take, drop, replicate}
+use Rattle.model.specs.Image.{Rules, stored, Mark, ME, ST, WD, RN, mark-of, record-size, number-at, Loading, nothing-loaded, Image, refused-image, loaded, image-after, stored-image}
 use Rattle.model.specs.Listing.{refusal-line}
 use Rattle.model.specs.Bench.{Called, call-refused, call-wrote}
 
 -- THE RECORDS at the front of some bytes, each as its own bytes. The bytes of a whole record with a known mark; else none
-unfoldable pub size-by : Option Mark → (bytes : ℕ) → ℕ
-size-by none n = 0
-size-by (some k) n = cond (leb (record-size k) n) (record-size k) 0
+unfoldable pub size-by : Rules → Option Mark → (bytes : ℕ) → ℕ
+size-by v none n = 0
+size-by v (some k) n = cond (leb (record-size v k) n) (record-size v k) 0
 
-unfoldable pub front-size : List ℕ → ℕ
-front-size bs = size-by (mark-of bs) (length bs)
+unfoldable pub front-size : Rules → List ℕ → ℕ
+front-size v bs = size-by v (mark-of bs) (length bs)
 
-unfoldable pub records-from : (most : ℕ) → List ℕ → List (List ℕ)
-records-from zero bs = []
-records-from (suc n) bs =
-    let s = front-size bs in
-    cond (eqb s 0) [] (take s bs ∷ records-from n (drop s bs))
+unfoldable pub records-from : Rules → (most : ℕ) → List ℕ → List (List ℕ)
+records-from v zero bs = []
+records-from v (suc n) bs =
+    let s = front-size v bs in
+    cond (eqb s 0) [] (take s bs ∷ records-from v n (drop s bs))
 
 -- each record takes a byte at least, so there are at most as many as bytes
-unfoldable pub records : List ℕ → List (List ℕ)
-records bs = records-from (length bs) bs
+unfoldable pub records : Rules → List ℕ → List (List ℕ)
+records v bs = records-from v (length bs) bs
 
 unfoldable pub joined : List (List ℕ) → List ℕ
 joined [] = []
 joined (x ∷ xs) = x ++ joined xs
 
 -- what comes after the records
-unfoldable pub left-over : List ℕ → List ℕ
-left-over bs = drop (length (joined (records bs))) bs
+unfoldable pub left-over : Rules → List ℕ → List ℕ
+left-over v bs = drop (length (joined (records v bs))) bs
 
 -- OF THE WD RECORDS THE LAST OF EACH ADDRESS. 43 and 44 let no WD by with an address of 8,192 or above
 unfoldable pub is-word : Option Mark → Bool
@@ -58,14 +58,44 @@ unfoldable pub last-of-each : List (List ℕ) → List (List ℕ)
 last-of-each [] = []
 last-of-each (x ∷ xs) = cond (superseded x xs) (last-of-each xs) (x ∷ last-of-each xs)
 
--- every other record stays where it stands
+-- a stored image with those alone of its WD records: every other record stays as it is, where it stands
+unfoldable pub kept-of : List ℕ → List ℕ
+kept-of bs = joined (last-of-each (records stored bs)) ++ left-over stored bs
+
+-- ST GAINS FIVE ZERO BYTES: the switch is off
+unfoldable pub added : Option Mark → List ℕ
+added none = []
+added (some ME) = []
+added (some ST) = replicate 5 0
+added (some WD) = []
+added (some RN) = []
+
+unfoldable pub renewed : (one : List ℕ) → List ℕ
+renewed x = x ++ added (mark-of x)
+
+-- the image with both changes
 unfoldable pub compacted : List ℕ → List ℕ
-compacted bs = joined (last-of-each (records bs)) ++ left-over bs
+compacted bs = joined (map renewed (last-of-each (records stored bs))) ++ left-over stored bs
+
+-- of an image with one ST they stand where it ends
+unfoldable pub is-start : Option Mark → Bool
+is-start none = false
+is-start (some ME) = false
+is-start (some ST) = true
+is-start (some WD) = false
+is-start (some RN) = false
+
+unfoldable pub start-end : (records : List (List ℕ)) → ℕ
+start-end [] = 0
+start-end (x ∷ xs) = length x + cond (is-start (mark-of x)) 0 (start-end xs)
+
+unfoldable pub with-zeros-at : (at : ℕ) → List ℕ → List ℕ
+with-zeros-at p bs = take p bs ++ (replicate 5 0 ++ drop p bs)
 
 -- THE PROGRAM: the stored image is judged, then written. With `kept` the bytes whose records have been loaded, and those that come after them
 unfoldable pub convert-on : Image → (bytes : List ℕ) → List ℕ
 convert-on (refused-image n) bs = refusal-line n
-convert-on (loaded m b) bs = compacted bs
+convert-on (loaded v m b) bs = compacted bs
 
 unfoldable pub convert-after : Loading → (kept bytes : List ℕ) → List ℕ
 convert-after l kept bs = convert-on (image-after l bs) (kept ++ bs)
@@ -73,10 +103,11 @@ convert-after l kept bs = convert-on (image-after l bs) (kept ++ bs)
 unfoldable pub convert : List ℕ → List ℕ
 convert bs = convert-after (nothing-loaded stored) [] bs
 
--- C'S CALL converts an image where it stands; bytes after the new one, and on refusal all, keep what they held
-unfoldable pub convert-call-on : Image → (bytes : List ℕ) → Called
-convert-call-on (refused-image n) bs = call-refused n bs
-convert-call-on (loaded m b) bs = call-wrote (compacted bs) bs
+-- C'S CALL converts an image where it stands, in a buffer with five bytes more, the room that ST needs; bytes after the new one,
+-- and on refusal all, keep what they held
+unfoldable pub convert-call-on : Image → (bytes buffer : List ℕ) → Called
+convert-call-on (refused-image n) bs buffer = call-refused n buffer
+convert-call-on (loaded v m b) bs buffer = call-wrote (compacted bs) buffer
 
-unfoldable pub convert-call : List ℕ → Called
-convert-call bs = convert-call-on (stored-image bs) bs
+unfoldable pub convert-call : (buffer : List ℕ) → Called
+convert-call buffer = let bs = take (length buffer - 5) buffer in convert-call-on (stored-image bs) bs buffer

@@ -4,7 +4,7 @@ use mathlib.Core.Bool.{false}
 use mathlib.Core.Option.{some}
 use Prim.Native.Nat.{ℕ, suc, _+_, _*_, _≤_}
 use Rattle.model.specs.Words.{Pointer, Instruction, instruction-in}
-use Rattle.model.specs.Registers.{Machine}
+use Rattle.model.specs.Registers.{Delivery, Machine}
 use Rattle.model.specs.Opcodes.{Opcode, decoded}
 use Rattle.model.specs.Questions.{fetch-questions}
 use Rattle.model.specs.Program.{faults, word-at, use-answer}
@@ -39,18 +39,19 @@ Direct-reads-none = (m : Machine) → fetched m .i ≡ false → pointer-words m
 abbrev pub No-operand-reads-none : Type 0
 No-operand-reads-none = (m : Machine) (o : Opcode) → decoded (fetched m .opcode) ≡ some o → o .operand ≡ false → pointer-words m ≡ 0
 
--- A RUN'S TOTAL has at most 64 for each completed step, and a faulting step isn't among them
+-- A RUN'S TOTAL has at most 64 for each completed step, and a faulting step isn't among them unless its fault is delivered
 abbrev pub Total-within : Type 0
-Total-within = (b : ℕ) (m : Machine) → total b m ≤ 64 * reply-numbers (run b m .reply) .count
+Total-within = (v : Delivery) (b : ℕ) (m : Machine) → total v b m ≤ 64 * reply-numbers (run v b m .reply) .count
 
 -- the total of j + k steps is that of j and, where that run spent its budget, that of k from what it left
 abbrev pub Total-continues : Type 0
-Total-continues = (j k : ℕ) (m : Machine) → run j m .reply ≡ spent j → total (j + k) m ≡ total j m + total k (after j m)
+Total-continues =
+    (v : Delivery) (j k : ℕ) (m : Machine) → run v j m .reply ≡ spent j → total v (j + k) m ≡ total v j m + total v k (after v j m)
 
 -- the step at which a run faults reads at most 64 too
 abbrev pub Fault-count-within : Type 0
-Fault-count-within = (b : ℕ) (m : Machine) → fault-count b m ≤ 64
+Fault-count-within = (v : Delivery) (b : ℕ) (m : Machine) → fault-count v b m ≤ 64
 
 -- A SINGLE STEP'S count is what the run with budget 1 reads, in its completed step or its faulting one
 abbrev pub Single-count-of-run : Type 0
-Single-count-of-run = (m : Machine) → single-count m ≡ total 1 m + fault-count 1 m
+Single-count-of-run = (v : Delivery) (m : Machine) → single-count v m ≡ total v 1 m + fault-count v 1 m

@@ -1,4 +1,4 @@
--- 01, 'Images and the listing', with 02's L1: an image's records, questions 41 to 44 and 51 of each in order, then 1 to 4.
+-- 01, 'Images and the listing', with 02's L1 and L4: an image's records, questions 41 to 44 and 51 of each in order, then 1 to 4.
 -- Assumes nothing: these are definitions.
 use mathlib.Core.Bool.{Bool, true, false, _&&_, _||_, not, cond}
 use mathlib.Core.List.{List, [], _∷_}
@@ -8,9 +8,15 @@ use Prim.Native.Char.{Char, code}
 use lib.Dec.{ltb, leb, eqb}
 use lib.ListN.{length, getD, set, take, drop, replicate}
 use Rattle.model.specs.Words.{Pointer}
-use Rattle.model.specs.Registers.{Registers, Machine, machine, zero-pointer}
+use Rattle.model.specs.Registers.{Registers, Delivery, no-delivery, Machine, machine, zero-pointer}
 use Rattle.model.specs.Questions.{ask, yes-to-all, start-questions}
 use Rattle.model.specs.Run.{unless-refused}
+
+-- THE RULES by which records are read: 01's, for which stored images were written (of two WD for one address the later wins, and ST has 59 bytes), and
+-- today's
+pub data Rules : Type 0 where
+  stored : Rules
+  today : Rules
 
 -- MARKS, two bytes of ASCII, and the bytes of a record with its mark
 pub data Mark : Type 0 where
@@ -26,11 +32,15 @@ unfoldable pub mark-of : List ℕ → Option Mark
 mark-of bs =
     cond (marked "M" "E" bs) (some ME) (cond (marked "S" "T" bs) (some ST) (cond (marked "W" "D" bs) (some WD) (cond (marked "R" "N" bs) (some RN) none)))
 
-unfoldable pub record-size : Mark → ℕ
-record-size ME = 6
-record-size ST = 61
-record-size WD = 14
-record-size RN = 6
+unfoldable pub start-size : Rules → ℕ
+start-size stored = 61
+start-size today = 66
+
+unfoldable pub record-size : Rules → Mark → ℕ
+record-size v ME = 6
+record-size v ST = start-size v
+record-size v WD = 14
+record-size v RN = 6
 
 -- NUMBERS, high byte first: n bytes from byte `at` of a record
 unfoldable pub big-endian : (value : ℕ) → List ℕ → ℕ
@@ -57,10 +67,10 @@ registers-at bs =
       prs = pointers-at 8 21 bs;
     }
 
--- THE RULES by which records are read: 01's, for which stored images were written (of two WD for one address the later wins), and today's
-pub data Rules : Type 0 where
-  stored : Rules
-  today : Rules
+-- and today the switch 1, save segment 2, handler segment 2 (02, L4)
+unfoldable pub delivery-at : Rules → List ℕ → Delivery
+delivery-at stored bs = no-delivery
+delivery-at today bs = record { switch = number-at 61 1 bs; save = number-at 62 2 bs; handler = number-at 64 2 bs }
 
 -- WHAT THE RECORDS SO FAR GAVE: memory once ME has come, registers once ST has; today also which words a WD has written
 pub record Loading : Type 0 where
@@ -68,9 +78,10 @@ pub record Loading : Type 0 where
   pub memory : Option (List ℕ)
   pub written : (address : ℕ) → Bool
   pub registers : Option Registers
+  pub delivery : Delivery
 
 abbrev pub nothing-loaded : Rules → Loading
-nothing-loaded v = record { rules = v; memory = none; written = λ _. false; registers = none }
+nothing-loaded v = record { rules = v; memory = none; written = λ _. false; registers = none; delivery = no-delivery }
 
 unfoldable pub has : {A : Type 0} → Option A → Bool
 has none = false
@@ -132,28 +143,48 @@ with-written today a w = λ b. eqb a b || w b
 
 unfoldable pub with-word : (address word : ℕ) → Loading → Loading
 with-word a v l =
-    record { rules = l .rules; memory = some (set (memory-of l) a v); written = with-written (l .rules) a (l .written); registers = l .registers }
+    record {
+      rules = l .rules;
+      memory = some (set (memory-of l) a v);
+      written = with-written (l .rules) a (l .written);
+      registers = l .registers;
+      delivery = l .delivery;
+    }
 
 unfoldable pub with-record : Mark → Loading → List ℕ → Loading
-with-record ME l bs = record { rules = l .rules; memory = some (replicate (number-at 2 4 bs) 0); written = l .written; registers = l .registers }
-with-record ST l bs = record { rules = l .rules; memory = l .memory; written = l .written; registers = some (registers-at bs) }
+with-record ME l bs =
+    record {
+      rules = l .rules;
+      memory = some (replicate (number-at 2 4 bs) 0);
+      written = l .written;
+      registers = l .registers;
+      delivery = l .delivery;
+    }
+with-record ST l bs =
+    record {
+      rules = l .rules;
+      memory = l .memory;
+      written = l .written;
+      registers = some (registers-at bs);
+      delivery = delivery-at (l .rules) bs;
+    }
 with-record WD l bs = with-word (number-at 2 4 bs) (number-at 6 8 bs) l
 with-record RN l bs = l
 
 pub data Image : Type 0 where
   refused-image : (number : ℕ) → Image
-  loaded : Machine → (budget : ℕ) → Image
+  loaded : Delivery → Machine → (budget : ℕ) → Image
 
 -- 1 to 4, once RN has come
-unfoldable pub checked : Machine → (budget : ℕ) → Image
-checked m b = unless-refused (start-questions m) refused-image (loaded m b)
+unfoldable pub checked : Delivery → Machine → (budget : ℕ) → Image
+checked v m b = unless-refused (start-questions v m) refused-image (loaded v m b)
 
 -- RN ends the image; after another record it goes on
 unfoldable pub record-on : Mark → Loading → List ℕ → (Loading → Image) → Image
 record-on ME l bs f = f (with-record ME l bs)
 record-on ST l bs f = f (with-record ST l bs)
 record-on WD l bs f = f (with-record WD l bs)
-record-on RN l bs f = checked (machine-of l) (number-at 2 4 bs)
+record-on RN l bs f = checked (l .delivery) (machine-of l) (number-at 2 4 bs)
 
 unfoldable pub whole-record-on : Mark → Loading → (bytes-after : ℕ) → List ℕ → (Loading → Image) → Image
 whole-record-on k l n bs f = unless-refused (record-questions k l n bs) refused-image (record-on k l bs f)
@@ -162,8 +193,9 @@ whole-record-on k l n bs f = unless-refused (record-questions k l n bs) refused-
 unfoldable pub marked-on : Option Mark → Loading → List ℕ → (Loading → List ℕ → Image) → Image
 marked-on none l bs f = refused-image 41
 marked-on (some k) l bs f =
-    let rest = drop (record-size k) bs in
-    cond (leb (record-size k) (length bs)) (whole-record-on k l (length rest) bs (λ j. f j rest)) (refused-image 41)
+    let size = record-size (l .rules) k in
+    let rest = drop size bs in
+    cond (leb size (length bs)) (whole-record-on k l (length rest) bs (λ j. f j rest)) (refused-image 41)
 
 -- no bytes: a file without RN, or an empty one, is 42
 unfoldable pub bytes-on : Loading → List ℕ → (Loading → List ℕ → Image) → Image

@@ -1,4 +1,4 @@
--- The machine of document 01, in its order. Assumes nothing: these are definitions.
+-- The machine of documents 01 and 02, in the order of 01. Assumes nothing: these are definitions.
 pub mod Words
 pub mod Registers
 pub mod Opcodes
@@ -6,8 +6,10 @@ pub mod Questions
 pub mod Program
 pub mod Reach
 pub mod Step
+pub mod Deliver
 pub mod Sound
 pub mod Run
+pub mod Delivered
 pub mod Answers
 pub mod Ends
 pub mod Image

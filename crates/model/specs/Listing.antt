@@ -6,7 +6,7 @@ use Prim.Native.String.{String}
 use Prim.Native.String as Text
 use Prim.Native.Char.{code}
 use lib.Dec.{ltb}
-use Rattle.model.specs.Registers.{Machine}
+use Rattle.model.specs.Registers.{Delivery, Machine}
 use Rattle.model.specs.Run.{Reply, refused, spent, halted, fault, run, Traced, trace, total}
 use Rattle.model.specs.Image.{Image, refused-image, loaded, image}
 
@@ -47,13 +47,13 @@ last-line (halted c) k = line (ascii "halted" ∷ decimal c ∷ decimal k ∷ []
 last-line (fault n c p) k =
     line (ascii "fault" ∷ decimal n ∷ decimal c ∷ decimal (p .ring) ∷ decimal (p .segment) ∷ decimal (p .word) ∷ decimal k ∷ [])
 
-unfoldable pub listing : (budget : ℕ) → Machine → List ℕ
-listing b m = step-lines 0 (trace b m) ++ last-line (run b m .reply) (total b m)
+unfoldable pub listing : Delivery → (budget : ℕ) → Machine → List ℕ
+listing v b m = step-lines 0 (trace v b m) ++ last-line (run v b m .reply) (total v b m)
 
 -- the text of an image, for the laptop and the bench alike; a refused one prints only `refused NUMBER`
 unfoldable pub image-listing : Image → List ℕ
 image-listing (refused-image n) = refusal-line n
-image-listing (loaded m b) = listing b m
+image-listing (loaded v m b) = listing v b m
 
 unfoldable pub image-text : (bytes : List ℕ) → List ℕ
 image-text bs = image-listing (image bs)

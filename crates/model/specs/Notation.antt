@@ -8,7 +8,7 @@ use Prim.Native.String as Text
 use lib.Dec.{eqb}
 use lib.ListN.{set}
 use Rattle.model.specs.Words.{Pointer}
-use Rattle.model.specs.Registers.{Registers}
+use Rattle.model.specs.Registers.{Registers, Delivery, no-delivery}
 use Rattle.model.specs.Opcodes.{Opcode, LDI}
 use Rattle.model.specs.Listing.{ascii}
 
@@ -61,13 +61,21 @@ unfoldable pub pointers-bytes : List Pointer → List ℕ
 pointers-bytes [] = []
 pointers-bytes (p ∷ ps) = pointer-bytes p ++ pointers-bytes ps
 
-unfoldable pub ST-record : Registers → List ℕ
-ST-record r =
+-- of a stored image, and today's
+unfoldable pub stored-ST : Registers → List ℕ
+stored-ST r =
     ascii "ST" ++ bytes 8 (r .a) ++ bytes 4 (r .dbr .address) ++ bytes 2 (r .dbr .length) ++ pointer-bytes (r .ipr) ++ pointers-bytes (r .prs)
+
+unfoldable pub ST-record : Registers → Delivery → List ℕ
+ST-record r v = stored-ST r ++ bytes 1 (v .switch) ++ bytes 2 (v .save) ++ bytes 2 (v .handler)
 
 unfoldable pub WD-records : List (ℕ × ℕ) → List ℕ
 WD-records [] = []
 WD-records (x ∷ xs) = ascii "WD" ++ bytes 4 (x .0) ++ bytes 8 (x .1) ++ WD-records xs
 
+-- an image with that ST, and one without delivery
+unfoldable pub image-with : (size : ℕ) → (start : List ℕ) → List (ℕ × ℕ) → (budget : ℕ) → List ℕ
+image-with n st ws b = ascii "ME" ++ bytes 4 n ++ st ++ WD-records ws ++ (ascii "RN" ++ bytes 4 b)
+
 unfoldable pub image-of : (size : ℕ) → Registers → List (ℕ × ℕ) → (budget : ℕ) → List ℕ
-image-of n r ws b = ascii "ME" ++ bytes 4 n ++ ST-record r ++ WD-records ws ++ (ascii "RN" ++ bytes 4 b)
+image-of n r ws b = image-with n (ST-record r no-delivery) ws b

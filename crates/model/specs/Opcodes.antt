@@ -24,6 +24,8 @@ pub data Access : Type 0 where
   -- read: DBR becomes the word
   loads-dbr : Access
   ends-run : Access
+  -- read thirteen words: A, DBR, IPR and the PRs become theirs (02, L4)
+  restores : Access
 
 pub record Opcode : Type 0 where
   pub number : ℕ
@@ -110,9 +112,13 @@ LDBR = record { number = 40; operand = true; privileged = true; access = loads-d
 unfoldable pub HLT : Opcode
 HLT = record { number = 41; operand = false; privileged = true; access = ends-run }
 
+-- 02, L4: restore control unit
+unfoldable pub RCU : Opcode
+RCU = record { number = 42; operand = true; privileged = true; access = restores }
+
 unfoldable pub opcodes : List Opcode
 opcodes =
-    LDA ∷ STA ∷ ADA ∷ SBA ∷ ANA ∷ ORA ∷ XRA ∷ CNT ∷ AOS ∷ LDI ∷ EAP ∷ SPP ∷ TRA ∷ TZE ∷ TMI ∷ CALL ∷ RETURN ∷ LDBR ∷ HLT ∷ []
+    LDA ∷ STA ∷ ADA ∷ SBA ∷ ANA ∷ ORA ∷ XRA ∷ CNT ∷ AOS ∷ LDI ∷ EAP ∷ SPP ∷ TRA ∷ TZE ∷ TMI ∷ CALL ∷ RETURN ∷ LDBR ∷ HLT ∷ RCU ∷ []
 
 -- the entry of that number, if the list has one
 unfoldable pub entry : (number : ℕ) → List Opcode → Option Opcode

@@ -1,11 +1,11 @@
 -- 01, 'The questions, in order'. A question's number stands beside its test, and only there. Assumes nothing: these are definitions.
 use mathlib.Core.Bool.{Bool, true, false, _&&_, _||_}
 use mathlib.Core.List.{List, [], _∷_}
-use Prim.Native.Nat.{ℕ, zero, suc, _+_, min}
+use Prim.Native.Nat.{ℕ, zero, suc, _+_, _-_, min}
 use lib.Dec.{ltb, leb, eqb}
 use lib.ListN.{length}
 use Rattle.model.specs.Words.{Descriptor, Pointer}
-use Rattle.model.specs.Registers.{Dbr, Registers, Machine}
+use Rattle.model.specs.Registers.{Dbr, Registers, Delivery, Machine}
 
 -- Questions in order answer the number of the first no, or 0 where all have a yes
 abbrev pub yes-to-all : ℕ
@@ -34,14 +34,18 @@ all f (x ∷ xs) = f x && all f xs
 unfoldable pub memory-fits : (size : ℕ) → Bool
 memory-fits n = leb n 16777216
 
--- 2: are rings ≤ 7, SEGNO ≤ 4,095, WORDNO ≤ 65,535, DBR ADDRESS ≤ 16,777,215?
+-- 2: are rings ≤ 7, SEGNO ≤ 4,095, WORDNO ≤ 65,535, DBR ADDRESS ≤ 16,777,215? And the switch ≤ 1, both its segments ≤ 4,095 (02, L4)?
 unfoldable pub pointer-in-range : Pointer → Bool
 pointer-in-range p = leb (p .ring) 7 && (leb (p .segment) 4095 && leb (p .word) 65535)
 
-unfoldable pub registers-in-range : Registers → Bool
-registers-in-range r = pointer-in-range (r .ipr) && (all pointer-in-range (r .prs) && leb (r .dbr .address) 16777215)
+unfoldable pub delivery-in-range : Delivery → Bool
+delivery-in-range v = leb (v .switch) 1 && (leb (v .save) 4095 && leb (v .handler) 4095)
 
--- 3: is every PR's RING ≥ IPR.RING?
+unfoldable pub registers-in-range : Delivery → Registers → Bool
+registers-in-range v r =
+    pointer-in-range (r .ipr) && (all pointer-in-range (r .prs) && (leb (r .dbr .address) 16777215 && delivery-in-range v))
+
+-- 3, and 52 of the frame that registers are taken from: is every PR's RING ≥ IPR.RING?
 unfoldable pub rings-at-least : (ring : ℕ) → List Pointer → Bool
 rings-at-least n ps = all (λ p. leb n (p .ring)) ps
 
@@ -49,12 +53,12 @@ rings-at-least n ps = all (λ p. leb n (p .ring)) ps
 unfoldable pub dbr-fits : (size : ℕ) → Dbr → Bool
 dbr-fits n d = leb (d .length) 4096 && leb (d .address + d .length) n
 
-unfoldable pub start-questions : Machine → ℕ
-start-questions m =
+unfoldable pub start-questions : Delivery → Machine → ℕ
+start-questions v m =
     let r = m .registers in
     let size = length (m .memory) in
     ask (memory-fits size) 1
-    (ask (registers-in-range r) 2 (ask (rings-at-least (r .ipr .ring) (r .prs)) 3 (ask (dbr-fits size (r .dbr)) 4 yes-to-all)))
+    (ask (registers-in-range v r) 2 (ask (rings-at-least (r .ipr .ring) (r .prs)) 3 (ask (dbr-fits size (r .dbr)) 4 yes-to-all)))
 
 -- WHENEVER A SEGMENT IS USED
 
@@ -65,8 +69,11 @@ segment-questions n b s d =
     (ask (d .valid) 12 (ask (leb (d .r1) (d .r2) && leb (d .r2) (d .r3)) 13 (ask (leb (d .address + d .length) n) 14 yes-to-all)))
 
 -- 15: WORDNO < LENGTH?
+unfoldable pub word-questions : (word : ℕ) → Question
+word-questions w d = ask (ltb w (d .length)) 15 yes-to-all
+
 unfoldable pub use-questions : (size : ℕ) → Dbr → Pointer → Question
-use-questions n b p d = then-ask (segment-questions n b (p .segment) d) (ask (ltb (p .word) (d .length)) 15 yes-to-all)
+use-questions n b p d = then-ask (segment-questions n b (p .segment) d) (word-questions (p .word) d)
 
 -- THEN BY USE, of the pointer under question: IPR for a fetch, else TPR
 
@@ -89,6 +96,10 @@ fetch-questions t d = ask (may-execute t d) 21 yes-to-all
 -- 22: R on, TPR.RING ≤ R2?
 unfoldable pub read-questions : Pointer → Question
 read-questions t d = ask (may-read t d) 22 yes-to-all
+
+-- 15 of each of so many words from WORDNO on, and so of the last, where word numbers don't go round; then 22
+unfoldable pub part-questions : (words : ℕ) → Pointer → Question
+part-questions n t d = then-ask (word-questions (t .word + n - 1) d) (read-questions t d)
 
 -- 23: W on, TPR.RING ≤ R1?
 unfoldable pub write-questions : Pointer → Question

@@ -1,12 +1,16 @@
 -- How 01 and 02 are read where they leave a choice (docs/DECISIONS.md), each reading as a fact of the definitions. Assumes nothing: these are definitions.
+use mathlib.Core.Path.{_≡_}
 use mathlib.Core.List.{List, [], _∷_, _++_}
+use mathlib.Core.Option.{some}
 use Prim.Native.Nat.{ℕ, _+_}
-use Rattle.model.specs.Registers.{Registers, Machine}
+use lib.ListN.{replicate, drop}
+use Rattle.model.specs.Registers.{Registers, Delivery, no-delivery, Machine}
 use Rattle.model.specs.Words.{pointer-word}
-use Rattle.model.specs.Opcodes.{Opcode, LDA, STA, AOS, EAP, TRA, TZE, CALL, LDBR, HLT}
+use Rattle.model.specs.Opcodes.{Opcode, LDA, STA, AOS, EAP, TRA, TZE, CALL, LDBR, HLT, RCU}
+use Rattle.model.specs.Deliver.{step-with}
 use Rattle.model.specs.Listing.{ascii}
-use Rattle.model.specs.Notation.{pointer, segment, by-ipr, by-pr, indirect-by-pr, indirect-word, bytes, ST-record, WD-records, image-of}
-use Rattle.model.specs.Cases.{step-faults, ipr-becomes, pr-becomes, word-becomes, step-counts, run-lists, image-prints, image-converts, Holds, about-to-do, about-to, through-pointer, case-12-registers, pointers-up, through-pointers}
+use Rattle.model.specs.Notation.{pointer, segment, by-ipr, by-pr, indirect-by-pr, indirect-word, bytes, stored-ST, ST-record, WD-records, image-with, image-of}
+use Rattle.model.specs.Cases.{step-faults, ipr-becomes, pr-becomes, a-becomes, word-becomes, step-counts, run-lists, delivery-lists, image-prints, image-converts, left-by, Holds, about-to-do, about-to, through-pointer, case-12-registers, pointers-up, through-pointers}
 
 -- the instruction and one word in segment 1
 unfoldable pub doing : (instruction ring segment-1 word : ℕ) → Machine
@@ -22,14 +26,34 @@ with-descriptors a l =
     record { a = 0; dbr = record { address = a; length = l }; ipr = case-12-registers .ipr; prs = case-12-registers .prs }
 
 unfoldable pub started : List ℕ
-started = ascii "ME" ++ bytes 4 64 ++ ST-record case-12-registers
+started = ascii "ME" ++ bytes 4 64 ++ ST-record case-12-registers no-delivery
 
 unfoldable pub ended : List ℕ
 ended = ascii "RN" ++ bytes 4 0
 
--- WD records before ST and after it
+-- WD records before ST and after it: of a stored image, and of one of today's
+unfoldable pub with-start : (start : List ℕ) → (before after : List (ℕ × ℕ)) → List ℕ
+with-start st xs ys = ascii "ME" ++ bytes 4 64 ++ WD-records xs ++ st ++ WD-records ys ++ ended
+
 unfoldable pub stored-one : (before after : List (ℕ × ℕ)) → List ℕ
-stored-one xs ys = ascii "ME" ++ bytes 4 64 ++ WD-records xs ++ ST-record case-12-registers ++ WD-records ys ++ ended
+stored-one xs ys = with-start (stored-ST case-12-registers) xs ys
+
+unfoldable pub todays-one : (before after : List (ℕ × ℕ)) → List ℕ
+todays-one xs ys = with-start (ST-record case-12-registers no-delivery) xs ys
+
+-- LDA in ring 4 of word 2 of segment 1, by a pointer of ring 5; that segment, of thirteen words, is the save segment too
+unfoldable pub loading : (segment-1 : ℕ) → Machine
+loading d = about-to-do (by-pr LDA 1) 4 (pointer 5 1 2) d (replicate 13 0)
+
+unfoldable pub delivering : (switch : ℕ) → Delivery
+delivering n = record { switch = n; save = 1; handler = 3 }
+
+-- RCU in ring 0 of the frame in segment 1: A 5, a DBR word, IPR in ring 4, PR0 in a given ring, PR7 in ring 5, and I on in two words
+unfoldable pub restoring : (segment-1 dbr-word pr0-ring : ℕ) → Machine
+restoring d b n =
+    let p = pointer-word (pointer 4 0 0) in
+    about-to-do (by-pr RCU 1) 0 (pointer 0 1 0) d
+    (0 ∷ 0 ∷ 5 ∷ b ∷ indirect-word (pointer 4 0 1) ∷ pointer-word (pointer n 0 9) ∷ p ∷ p ∷ p ∷ p ∷ p ∷ p ∷ indirect-word (pointer 5 2 3) ∷ [])
 
 pub record Readings : Type 0 where
   -- IMAGES are judged record by record: a bad record's number comes before anything that a later record would get
@@ -39,7 +63,7 @@ pub record Readings : Type 0 where
   pub stray-byte-after-RN-is-42 : Holds (image-prints (started ++ ended ++ (87 ∷ [])) "refused 42\n")
   pub earlier-record's-44-comes-before-41 : Holds (image-prints (started ++ WD-records ((64, 0) ∷ []) ++ (87 ∷ [])) "refused 44\n")
   pub second-ME-is-42 : Holds (image-prints (started ++ started) "refused 42\n")
-  pub second-ST-is-42 : Holds (image-prints (started ++ ST-record case-12-registers ++ ended) "refused 42\n")
+  pub second-ST-is-42 : Holds (image-prints (started ++ ST-record case-12-registers no-delivery ++ ended) "refused 42\n")
   pub RN-before-ST-is-42 : Holds (image-prints (ascii "ME" ++ bytes 4 64 ++ ended) "refused 42\n")
   pub WD-before-ME-is-42 : Holds (image-prints (WD-records ((0, 0) ∷ []) ++ started ++ ended) "refused 42\n")
   pub ME-above-8192-is-43 : Holds (image-prints (ascii "ME" ++ bytes 4 8193) "refused 43\n")
@@ -48,11 +72,12 @@ pub record Readings : Type 0 where
   pub equal-WD-is-51 : Holds (image-prints (started ++ WD-records ((4, 1) ∷ (4, 1) ∷ []) ++ ended) "refused 51\n")
   pub second-WD-outside-is-44 : Holds (image-prints (started ++ WD-records ((64, 0) ∷ (64, 0) ∷ []) ++ ended) "refused 44\n")
   pub second-WD-comes-before-4 :
-      Holds (image-prints (ascii "ME" ++ bytes 4 2 ++ ST-record case-12-registers ++ WD-records ((1, 0) ∷ (1, 0) ∷ []) ++ ended) "refused 51\n")
+      Holds (image-prints (ascii "ME" ++ bytes 4 2 ++ ST-record case-12-registers no-delivery ++ WD-records ((1, 0) ∷ (1, 0) ∷ []) ++ ended) "refused 51\n")
   -- STORED IMAGES: the last of each address is kept where it stands, ST too; a refused one gives only its number
-  pub last-WD-is-kept : Holds (image-converts (stored-one ((4, 1) ∷ (5, 2) ∷ []) ((4, 3) ∷ (3, 4) ∷ [])) (stored-one ((5, 2) ∷ []) ((4, 3) ∷ (3, 4) ∷ [])))
+  pub last-WD-is-kept : Holds (image-converts (stored-one ((4, 1) ∷ (5, 2) ∷ []) ((4, 3) ∷ (3, 4) ∷ [])) (todays-one ((5, 2) ∷ []) ((4, 3) ∷ (3, 4) ∷ [])))
   pub stored-44-is-refused : Holds (image-converts (stored-one ((4, 1) ∷ []) ((4, 3) ∷ (64, 4) ∷ [])) (ascii "refused 44\n"))
-  pub stored-4-is-refused : Holds (image-converts (image-of 64 (with-descriptors 65 0) [] 1) (ascii "refused 4\n"))
+  pub stored-4-is-refused : Holds (image-converts (image-with 64 (stored-ST (with-descriptors 65 0)) [] 1) (ascii "refused 4\n"))
+  pub todays-is-not-stored : Holds (image-converts (todays-one [] []) (ascii "refused 41\n"))
   -- WITHIN MEMORY with LENGTH 0 lets ADDRESS equal the memory's length, and no more: 4, and 34
   pub empty-descriptor-segment-at-the-end-passes-4 : Holds (image-prints (image-of 64 (with-descriptors 64 0) [] 1) "fault 11 0 4 4 0 0\n")
   pub empty-descriptor-segment-past-the-end-is-4 : Holds (image-prints (image-of 64 (with-descriptors 65 0) [] 1) "refused 4\n")
@@ -92,5 +117,26 @@ pub record Readings : Type 0 where
   -- a run's total is the sum over its step lines, and a faulting step isn't in it
   pub totals-are-sums : Holds (run-lists 3 (through TRA 1 (pointer-word (pointer 4 0 0) ∷ [])) "1 4 0 0 1\n2 4 0 0 1\n3 4 0 0 1\nspent 3 3\n")
   pub faulting-step-is-not-in-the-total : Holds (run-lists 1 (through-pointers 65) "fault 31 0 4 1 64 0\n")
+  -- A FAULT IS DELIVERED (02, L4) to a save segment of thirteen words with W on, in whatever ring; that is a step
+  pub unsaved-in-12-words : Holds (delivery-lists (delivering 1) 1 (loading (segment 3 12 0 0 0 "W V" 0)) "fault 22 0 5 1 2 0\n")
+  pub unsaved-without-W : Holds (delivery-lists (delivering 1) 1 (loading (segment 3 13 0 0 0 "V" 0)) "fault 22 0 5 1 2 0\n")
+  pub unsaved-without-V : Holds (delivery-lists (delivering 1) 1 (loading (segment 3 13 0 0 0 "W" 0)) "fault 12 0 5 1 2 0\n")
+  pub unsaved-with-the-switch-off : Holds (delivery-lists (delivering 0) 1 (loading (segment 3 13 0 0 0 "W V" 0)) "fault 22 0 5 1 2 0\n")
+  pub switch-of-2-is-2 : Holds (delivery-lists (delivering 2) 1 (loading (segment 3 13 0 0 0 "W V" 0)) "refused 2\n")
+  pub delivered-in-ring-0's-segment : Holds (delivery-lists (delivering 1) 1 (loading (segment 3 13 0 0 0 "W V" 0)) "1 0 3 0 0\nspent 1 0\n")
+  -- the frame: number, address under question, A, DBR, IPR and PR0 to PR7
+  pub delivered-frame :
+      left-by (λ k. drop 3 (k .memory)) (step-with (delivering 1) (loading (segment 3 13 0 0 0 "W V" 0)))
+      ≡ some (22 ∷ 1342242818 ∷ 7 ∷ 33554432 ∷ 1073741824 ∷ 1073741824 ∷ 1342242818 ∷ 1073741824 ∷ 1073741824 ∷ 1073741824 ∷ 1073741824 ∷ 1073741824 ∷ 1073741824 ∷ [])
+  -- RCU asks 15 of all thirteen words, 22, 34 and 52, in that order and of TPR; IPR becomes the frame's, not the word after
+  pub RCU-above-ring-0-is-33 : Holds (step-faults (doing (by-pr RCU 1) 4 0 0) 33 (pointer 4 0 0))
+  pub RCU-of-12-words-is-15 : Holds (step-faults (restoring (segment 3 12 0 0 0 "V" 0) 17 3) 15 (pointer 0 1 0))
+  pub RCU-without-R-is-22 : Holds (step-faults (restoring (segment 3 13 0 0 0 "V" 0) 17 3) 22 (pointer 0 1 0))
+  pub RCU-of-a-DBR-past-the-end-is-34 : Holds (step-faults (restoring (segment 3 13 0 0 0 "R V" 0) 17 3) 34 (pointer 0 1 0))
+  pub RCU-of-PR0-below-IPR-is-52 : Holds (step-faults (restoring (segment 3 13 0 0 0 "R V" 0) 16 3) 52 (pointer 0 1 0))
+  pub RCU-takes-A : Holds (a-becomes (restoring (segment 3 13 0 0 0 "R V" 0) 16 4) 5)
+  pub RCU-takes-IPR : Holds (ipr-becomes (restoring (segment 3 13 0 0 0 "R V" 0) 16 4) (pointer 4 0 1))
+  pub RCU-takes-PR0 : Holds (pr-becomes (restoring (segment 3 13 0 0 0 "R V" 0) 16 4) 0 (pointer 4 0 9))
+  pub RCU-takes-PR7 : Holds (pr-becomes (restoring (segment 3 13 0 0 0 "R V" 0) 16 4) 7 (pointer 5 2 3))
   -- WORD NUMBERS go round from 65,535 to 0
   pub offset-goes-round : Holds (pr-becomes (about-to-do (by-pr EAP 1 + 3) 4 (pointer 4 1 65535) 0 []) 5 (pointer 4 1 2))

@@ -1,6 +1,6 @@
 -- 01, 'Words and registers': the registers, the machine, and registers with one of them changed. Assumes nothing: these are definitions.
 use mathlib.Core.List.{List}
-use Prim.Native.Nat.{ℕ, _+_, _%_, _^_, max}
+use Prim.Native.Nat.{ℕ, _+_, _*_, _%_, _^_, max}
 use lib.ListN.{getD, set}
 use Rattle.model.specs.Words.{field, Pointer}
 
@@ -14,6 +14,15 @@ pub record Registers : Type 0 where
   pub dbr : Dbr
   pub ipr : Pointer
   pub prs : List Pointer
+
+-- 02, L4: the switch, the save segment and the handler segment. The host's register record has them after the registers, and no step changes them
+pub record Delivery : Type 0 where
+  pub switch : ℕ
+  pub save : ℕ
+  pub handler : ℕ
+
+abbrev pub no-delivery : Delivery
+no-delivery = record { switch = 0; save = 0; handler = 0 }
 
 -- registers and the lent memory
 pub record Machine : Type 0 where
@@ -29,9 +38,12 @@ zero-pointer = record { ring = 0; segment = 0; word = 0 }
 unfoldable pub pr : Registers → (number : ℕ) → Pointer
 pr r k = getD (r .prs) k zero-pointer
 
--- LDBR's word: bits 0-23 ADDRESS, 24-36 LENGTH, the rest ignored
+-- LDBR's word: bits 0-23 ADDRESS, 24-36 LENGTH, the rest ignored on reading, and zero as it is written
 unfoldable pub dbr-in : (word : ℕ) → Dbr
 dbr-in w = record { address = field 0 24 w; length = field 24 13 w }
+
+unfoldable pub dbr-word : Dbr → ℕ
+dbr-word d = d .address + 2 ^ 24 * d .length
 
 -- ONE REGISTER CHANGED
 unfoldable pub with-a : ℕ → Registers → Registers

@@ -4,10 +4,11 @@ use mathlib.Core.List.{List, [], _∷_}
 use Prim.Native.Nat.{ℕ, zero, suc, _+_}
 use lib.Dec.{ltb}
 use Rattle.model.specs.Words.{Pointer}
-use Rattle.model.specs.Registers.{Machine}
+use Rattle.model.specs.Registers.{Delivery, Machine}
 use Rattle.model.specs.Questions.{start-questions}
 use Rattle.model.specs.Program.{Outcome, faults, completes, halts}
 use Rattle.model.specs.Step.{step, pointer-words}
+use Rattle.model.specs.Deliver.{step-with, is-delivered}
 
 -- all that a run answers; the count is the number of completed steps, and a refusal's is 0
 pub data Reply : Type 0 where
@@ -34,18 +35,18 @@ run-on c m (faults n t) f = ran (fault n c t) m
 run-on c m (halts k) f = ran (halted (suc c)) k
 run-on c m (completes k) f = f k
 
-unfoldable pub run-from : (left count : ℕ) → Machine → Ran
-run-from zero c m = ran (spent c) m
-run-from (suc n) c m = run-on c m (step m) (λ k. run-from n (suc c) k)
+unfoldable pub run-from : Delivery → (left count : ℕ) → Machine → Ran
+run-from v zero c m = ran (spent c) m
+run-from v (suc n) c m = run-on c m (step-with v m) (λ k. run-from v n (suc c) k)
 
-unfoldable pub run : (budget : ℕ) → Machine → Ran
-run b m = unless-refused (start-questions m) (λ n. ran (refused n) m) (run-from b 0 m)
+unfoldable pub run : Delivery → (budget : ℕ) → Machine → Ran
+run v b m = unless-refused (start-questions v m) (λ n. ran (refused n) m) (run-from v b 0 m)
 
 -- what stands after step k is what the run with budget k leaves
-unfoldable pub after : (steps : ℕ) → Machine → Machine
-after k m = run k m .machine
+unfoldable pub after : Delivery → (steps : ℕ) → Machine → Machine
+after v k m = run v k m .machine
 
--- A SINGLE STEP as a call
+-- A SINGLE STEP as a call; one that delivers its fault is completed
 pub data StepReply : Type 0 where
   refused : (number : ℕ) → StepReply
   completed : StepReply
@@ -64,10 +65,10 @@ stepped-to m (faults n t) = stepped (StepReply.fault n t) m
 stepped-to m (halts k) = stepped StepReply.halted k
 stepped-to m (completes k) = stepped completed k
 
-unfoldable pub single-step : Machine → Stepped
-single-step m = unless-refused (start-questions m) (λ n. stepped (StepReply.refused n) m) (stepped-to m (step m))
+unfoldable pub single-step : Delivery → Machine → Stepped
+single-step v m = unless-refused (start-questions v m) (λ n. stepped (StepReply.refused n) m) (stepped-to m (step-with v m))
 
--- THE TRACE: of each completed step IPR after it, and how many pointer words it read (02, L2)
+-- THE TRACE: of each completed step IPR after it, and how many pointer words it read (02, L2), before its fault if it delivers one
 pub record Traced : Type 0 where
   pub ipr : Pointer
   pub pointers : ℕ
@@ -80,20 +81,20 @@ trace-on c (faults n t) f = []
 trace-on c (halts k) f = traced k c ∷ []
 trace-on c (completes k) f = traced k c ∷ f k
 
-unfoldable pub trace-from : (left : ℕ) → Machine → List Traced
-trace-from zero m = []
-trace-from (suc n) m = trace-on (pointer-words m) (step m) (λ k. trace-from n k)
+unfoldable pub trace-from : Delivery → (left : ℕ) → Machine → List Traced
+trace-from v zero m = []
+trace-from v (suc n) m = trace-on (pointer-words m) (step-with v m) (λ k. trace-from v n k)
 
-unfoldable pub trace : (budget : ℕ) → Machine → List Traced
-trace b m = unless-refused (start-questions m) (λ n. []) (trace-from b m)
+unfoldable pub trace : Delivery → (budget : ℕ) → Machine → List Traced
+trace v b m = unless-refused (start-questions v m) (λ n. []) (trace-from v b m)
 
 -- a run's total is that of its completed steps
 unfoldable pub total-of : List Traced → ℕ
 total-of [] = 0
 total-of (x ∷ xs) = x .pointers + total-of xs
 
-unfoldable pub total : (budget : ℕ) → Machine → ℕ
-total b m = total-of (trace b m)
+unfoldable pub total : Delivery → (budget : ℕ) → Machine → ℕ
+total v b m = total-of (trace v b m)
 
 -- how many the step read at which a run faults; 0 where it ends otherwise
 unfoldable pub fault-count-on : (count : ℕ) → Outcome → (Machine → ℕ) → ℕ
@@ -101,21 +102,28 @@ fault-count-on c (faults n t) f = c
 fault-count-on c (halts k) f = 0
 fault-count-on c (completes k) f = f k
 
-unfoldable pub fault-count-from : (left : ℕ) → Machine → ℕ
-fault-count-from zero m = 0
-fault-count-from (suc n) m = fault-count-on (pointer-words m) (step m) (λ k. fault-count-from n k)
+unfoldable pub fault-count-from : Delivery → (left : ℕ) → Machine → ℕ
+fault-count-from v zero m = 0
+fault-count-from v (suc n) m = fault-count-on (pointer-words m) (step-with v m) (λ k. fault-count-from v n k)
 
-unfoldable pub fault-count : (budget : ℕ) → Machine → ℕ
-fault-count b m = unless-refused (start-questions m) (λ n. 0) (fault-count-from b m)
+unfoldable pub fault-count : Delivery → (budget : ℕ) → Machine → ℕ
+fault-count v b m = unless-refused (start-questions v m) (λ n. 0) (fault-count-from v b m)
 
 -- a single step has its own count, faulting or not
-unfoldable pub single-count : Machine → ℕ
-single-count m = unless-refused (start-questions m) (λ n. 0) (pointer-words m)
+unfoldable pub single-count : Delivery → Machine → ℕ
+single-count v m = unless-refused (start-questions v m) (λ n. 0) (pointer-words m)
 
--- THE STRETCH is a run: its budget is the number of steps up to and with the first that ends below ring n, or the run's own where none does
-unfoldable pub steps-to-below : (ring : ℕ) → (count otherwise : ℕ) → List Traced → ℕ
-steps-to-below n c b [] = b
-steps-to-below n c b (x ∷ xs) = cond (ltb (x .ipr .ring) n) (suc c) (steps-to-below n (suc c) b xs)
+-- THE STRETCH is a run. Its budget: the number of steps up to and with the first that ends below ring n, or before the first that
+-- delivers a fault, whichever comes first (02, L4); the run's own where there is none
+unfoldable pub stretch-on : (ring left : ℕ) → Outcome → (Machine → ℕ) → ℕ
+stretch-on n b (faults c t) f = suc b
+stretch-on n b (halts k) f = suc (cond (ltb (k .registers .ipr .ring) n) 0 b)
+stretch-on n b (completes k) f = suc (cond (ltb (k .registers .ipr .ring) n) 0 (f k))
 
-unfoldable pub stretch : (ring budget : ℕ) → Machine → ℕ
-stretch n b m = steps-to-below n 0 b (trace b m)
+unfoldable pub stretch-from : Delivery → (ring left : ℕ) → Machine → ℕ
+stretch-from v n zero m = 0
+stretch-from v n (suc b) m =
+    cond (is-delivered v m (step m)) 0 (stretch-on n b (step m) (λ k. stretch-from v n b k))
+
+unfoldable pub stretch : Delivery → (ring budget : ℕ) → Machine → ℕ
+stretch v n b m = unless-refused (start-questions v m) (λ _. b) (stretch-from v n b m)

@@ -1,14 +1,14 @@
 -- 01, 'One step': fetch, the effective address, and what each opcode does. Assumes nothing: these are definitions.
 use mathlib.Core.Bool.{Bool, _||_, not, cond}
-use mathlib.Core.List.{map}
+use mathlib.Core.List.{List, [], _∷_, map}
 use mathlib.Core.Option.{Option, none, some}
 use Prim.Native.Nat.{ℕ, zero, suc, max}
 use lib.Dec.{eqb}
-use lib.ListN.{length}
+use lib.ListN.{length, getD, take, drop}
 use Rattle.model.specs.Words.{Descriptor, Pointer, pointer-in, indirect-in, Instruction, instruction-in}
-use Rattle.model.specs.Registers.{Registers, Machine, pr, dbr-in, with-a, with-dbr, with-ipr, with-prs, with-pr, moved-by, with-ring-at-least, advanced}
-use Rattle.model.specs.Opcodes.{Access, sets, reads, writes, updates, transfers, calls, returns, loads-dbr, ends-run, Opcode, decoded}
-use Rattle.model.specs.Questions.{dbr-fits, fetch-questions, read-questions, write-questions, transfer-questions, return-questions, new-ring, call-questions}
+use Rattle.model.specs.Registers.{Dbr, Registers, Machine, pr, dbr-in, with-a, with-dbr, with-ipr, with-prs, with-pr, moved-by, with-ring-at-least, advanced}
+use Rattle.model.specs.Opcodes.{Access, sets, reads, writes, updates, transfers, calls, returns, loads-dbr, ends-run, restores, Opcode, decoded}
+use Rattle.model.specs.Questions.{rings-at-least, dbr-fits, fetch-questions, read-questions, part-questions, write-questions, transfer-questions, return-questions, new-ring, call-questions}
 use Rattle.model.specs.Program.{Program, fail, finish, halt, look, read, tick, write, Outcome, execute, ticks}
 
 -- 2. THE EFFECTIVE ADDRESS, TPR. P off: IPR's ring and segment. P on: the PR's segment, in the larger of the two rings
@@ -61,9 +61,30 @@ unfoldable pub return : Registers → Pointer → Program
 return r t = look (return-questions t) t (λ d. finish (returned t r))
 
 -- 34, after 22: LENGTH ≤ 4,096 and within memory?
+unfoldable pub if-dbr-fits : (size : ℕ) → Dbr → Pointer → Program → Program
+if-dbr-fits n b t p = cond (dbr-fits n b) p (fail 34 t)
+
 unfoldable pub load-dbr : (size : ℕ) → Registers → Pointer → Program
-load-dbr n r t =
-    read (read-questions t) t (λ d w. cond (dbr-fits n (dbr-in w)) (finish (advanced (with-dbr (dbr-in w) r))) (fail 34 t))
+load-dbr n r t = read (read-questions t) t (λ d w. if-dbr-fits n (dbr-in w) t (finish (advanced (with-dbr (dbr-in w) r))))
+
+-- RCU (02, L4): the words of a frame from TPR on
+unfoldable pub read-words : (count : ℕ) → Pointer → (List ℕ → Program) → Program
+read-words zero t f = f []
+read-words (suc n) t f =
+    read (read-questions t) t (λ d w. read-words n (moved-by 1 t) (λ ws. f (w ∷ ws)))
+
+-- the registers in a frame; its number and the address under question are ignored, and so is every I
+unfoldable pub registers-in : (frame : List ℕ) → Registers
+registers-in ws =
+    record { a = getD ws 2 0; dbr = dbr-in (getD ws 3 0); ipr = pointer-in (getD ws 4 0); prs = map pointer-in (take 8 (drop 5 ws)) }
+
+-- 52, after 34: has the frame no PR in a lower ring than its IPR's?
+unfoldable pub take-up : (size : ℕ) → Pointer → Registers → Program
+take-up n t r = if-dbr-fits n (r .dbr) t (cond (rings-at-least (r .ipr .ring) (r .prs)) (finish r) (fail 52 t))
+
+-- 15 and 22 of all thirteen words come before any is read, so that each reading of one passes, and none goes round
+unfoldable pub restore : (size : ℕ) → Pointer → Program
+restore n t = look (part-questions 13 t) t (λ d. read-words 13 t (λ ws. take-up n t (registers-in ws)))
 
 unfoldable pub perform : (size : ℕ) → Access → Instruction → Registers → Pointer → Program
 perform n (sets f) i r t = finish (advanced (f i t r))
@@ -75,6 +96,7 @@ perform n calls i r t = call r t
 perform n returns i r t = return r t
 perform n loads-dbr i r t = load-dbr n r t
 perform n ends-run i r t = halt (advanced r)
+perform n restores i r t = restore n t
 
 -- 32: opcode in the table? 33: ring 0, if privileged?
 unfoldable pub obey : (size : ℕ) → Registers → Instruction → Option Opcode → Program

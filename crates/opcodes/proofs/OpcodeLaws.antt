@@ -47,27 +47,27 @@ column-right (suc n) c f e k h =
 abbrev Right : (column : ℕ) → (Opcode → Bool) → Type 0
 Right c f = (k : ℕ) → k < 64 → on k c ≡ of-entry f (decoded k)
 
-operands : Right 1112514167806 (λ o. o .operand)
+operands : Right 5510560678910 (λ o. o .operand)
 unfolding right-below same of-entry on field by-computation
-operands = column-right 64 1112514167806 (λ o. o .operand) refl
+operands = column-right 64 5510560678910 (λ o. o .operand) refl
 
-privileges : Right 3298534883328 (λ o. o .privileged)
+privileges : Right 7696581394432 (λ o. o .privileged)
 unfolding right-below same of-entry on field by-computation
-privileges = column-right 64 3298534883328 (λ o. o .privileged) refl
+privileges = column-right 64 7696581394432 (λ o. o .privileged) refl
 
-readers : Right 1099511628794 (λ o. reads-word (o .access))
+readers : Right 5497558139898 (λ o. reads-word (o .access))
 unfolding right-below same of-entry on field by-computation
-readers = column-right 64 1099511628794 (λ o. reads-word (o .access)) refl
+readers = column-right 64 5497558139898 (λ o. reads-word (o .access)) refl
 
 writers : Right 131588 (λ o. writes-word (o .access))
 unfolding right-below same of-entry on field by-computation
 writers = column-right 64 131588 (λ o. writes-word (o .access)) refl
 
-movers : Right 13002342400 (λ o. moves-control (o .access))
+movers : Right 4411048853504 (λ o. moves-control (o .access))
 unfolding right-below same of-entry on field by-computation
-movers = column-right 64 13002342400 (λ o. moves-control (o .access)) refl
+movers = column-right 64 4411048853504 (λ o. moves-control (o .access)) refl
 
-pub entry-law : (k : ℕ) (a b c d e : Bool) → k < 64 → a ≡ on k 1112514167806 → b ≡ on k 3298534883328 → c ≡ on k 1099511628794 → d ≡ on k 131588 → e ≡ on k 13002342400 →
+pub entry-law : (k : ℕ) (a b c d e : Bool) → k < 64 → a ≡ on k 5510560678910 → b ≡ on k 7696581394432 → c ≡ on k 5497558139898 → d ≡ on k 131588 → e ≡ on k 4411048853504 →
     Told k (record { operand = a; privileged = b; reads = c; writes = d; moves = e })
 entry-law k a b c d e h i j l m n =
     record {
@@ -104,6 +104,7 @@ outside k h =
       return = apart k 33 h (omega arith);
       ldbr = apart k 40 h (omega arith);
       hlt = apart k 41 h (omega arith);
+      rcu = apart k 42 h (omega arith);
     }
 
 -- from 64 on there is none

@@ -4,7 +4,7 @@ use mathlib.Core.Bool.{Bool, true, false, cond}
 use mathlib.Core.Option.{Option, none, some}
 use Prim.Native.Nat.{ℕ, _+_, _*_, _-_, _%_}
 use lib.Dec.{leb, eqb}
-use Rattle.model.specs.Opcodes.{Access, sets, reads, writes, updates, transfers, calls, returns, loads-dbr, ends-run, Opcode, sum, difference, bitwise, count-of-ones, decoded}
+use Rattle.model.specs.Opcodes.{Access, sets, reads, writes, updates, transfers, calls, returns, loads-dbr, ends-run, restores, Opcode, sum, difference, bitwise, count-of-ones, decoded}
 use Rattle.opcodes.specs.declared.table.Entry.{Entry}
 
 -- A after a read, by the opcode's number
@@ -35,6 +35,7 @@ reads-word calls = false
 reads-word returns = false
 reads-word loads-dbr = true
 reads-word ends-run = false
+reads-word restores = true
 
 abbrev pub writes-word : Access → Bool
 writes-word (sets f) = false
@@ -46,6 +47,7 @@ writes-word calls = false
 writes-word returns = false
 writes-word loads-dbr = false
 writes-word ends-run = false
+writes-word restores = false
 
 abbrev pub moves-control : Access → Bool
 moves-control (sets f) = false
@@ -57,6 +59,7 @@ moves-control calls = true
 moves-control returns = true
 moves-control loads-dbr = false
 moves-control ends-run = false
+moves-control restores = true
 
 -- an entry as the model's
 pub record Told (opcode : ℕ) (e : Entry) : Type 0 where

@@ -7,11 +7,11 @@ ghost use Rattle.opcodes.specs.Table.{Told};
 // A column for each thing that an entry says, with bit k for opcode k. No opcode has a number of 64 or more.
 // As bits of whole numbers the table needs no memory: a look-up is a constant and a shift.
 const OPCODES: [u64; 5] = [
-    1112514167806,
-    3298534883328,
-    1099511628794,
+    5510560678910,
+    7696581394432,
+    5497558139898,
     131588,
-    13002342400,
+    4411048853504,
 ];
 
 // What the table says of an opcode: an operand, ring 0 alone, and how it uses the operand's segment.

@@ -80,7 +80,7 @@ module _ (c : Core) (d : Descriptor) (m : List ℕ) (t : Pointer) (y : Accessed)
 
     module _ (v : Code-dbr.Dbr) (g : as-dbr v ≡ dbr-in w) (b : Bool) (h : b ≡ dbr-fits (length m) (as-dbr v)) where
       pub load-dbr-unfit : (u : Code.Pointer) → not b ≡ true → x ≡ faulted-after c d 34 u → as-pointer u ≡ t → Does-with-any-prs c d m (λ r. Step.load-dbr (length m) r t) x m
-      unfolding Step.load-dbr execute after-read
+      unfolding Step.load-dbr Step.if-dbr-fits execute after-read
       load-dbr-unfit u i j k =
           record {
             does =
@@ -90,7 +90,7 @@ module _ (c : Core) (d : Descriptor) (m : List ℕ) (t : Pointer) (y : Accessed)
           }
 
       pub load-dbr-completes : (z : Core) → not b ≡ false → Becomes c (with-dbr (as-dbr v)) z → Completes z d x → Does-with-any-prs c d m (λ r. Step.load-dbr (length m) r t) x m
-      unfolding Step.load-dbr with-dbr execute machine after-read
+      unfolding Step.load-dbr Step.if-dbr-fits with-dbr execute machine after-read
       load-dbr-completes z i j k =
           record {
             does =

@@ -59,7 +59,7 @@ pub fn update(core: Core, code: Descriptor, memory: &mut [u64], t: Pointer) -> A
 }
 
 // The DBR in LDBR's word.
-fn dbr_in(w: u64) -> Dbr
+pub fn dbr_in(w: u64) -> Dbr
     ensures { λ d. ⌜ (as-dbr d ≡ Registers.dbr-in w) × (d .address < 16777216) × (d .length < 8192) ⌝ }
 {
     Dbr {
@@ -69,7 +69,7 @@ fn dbr_in(w: u64) -> Dbr
 }
 
 // 34: within 4,096 words and within memory?
-fn is_dbr(dbr: Dbr, words: usize) -> bool
+pub fn is_dbr(dbr: Dbr, words: usize) -> bool
     requires { ⌜ (dbr .address < 16777216) × (dbr .length < 8192) ⌝ }
     ensures { λ r. ⌜ r ≡ Questions.dbr-fits words (as-dbr dbr) ⌝ }
 {

@@ -64,6 +64,7 @@ each-ignores =
       return = λ e n i r t u. impossible e;
       ldbr = λ e n i r t u. impossible e;
       hlt = λ e n i r t u. refl;
+      rcu = λ e n i r t u. impossible e;
     }
 
 -- THE OPERAND of an entry: no pointer word is asked for

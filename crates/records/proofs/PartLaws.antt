@@ -12,17 +12,20 @@ use Rattle.model.specs.Image.{mark-of, record-size, refused-image, marked-on, b
 use Rattle.model.proofs.ImageLaws.{image-record-by-record, image-needs-rn}
 use Rattle.fields.specs.declared.mark.Mark.{Mark}
 use Rattle.fields.specs.declared.mark.Mark.the-variants.{Memory, Start, Word, Run, Unknown}
+use Rattle.loading.specs.declared.Loading.{Loading}
 use Rattle.loading.specs.declared.Outcome.the-variants.{Refused}
 use Rattle.fields.specs.Mark.{as-mark, size-of}
+use Rattle.fields.specs.Rules.{rules-of}
+use Rattle.loading.specs.View.{as-loading}
 use Rattle.loading.specs.Record.{outcome-image, Goes}
-use Rattle.fields.proofs.MarkLaws.{mark-of-front}
+use Rattle.fields.proofs.MarkLaws.{mark-of-front, start-within}
 
-pub part-is-short : (k : Mark) (bs : List ℕ) → length bs < size-of k → length bs < 61
-part-is-short Memory bs h = omega arith
-part-is-short Start bs h = omega arith
-part-is-short Word bs h = omega arith
-part-is-short Run bs h = omega arith
-part-is-short Unknown bs h = omega arith
+pub part-is-short : (v : Bool) (k : Mark) (bs : List ℕ) → length bs < size-of (rules-of v) k → length bs < 66
+part-is-short v Memory bs h = omega arith
+part-is-short v Start bs h = let y = start-within v in omega arith
+part-is-short v Word bs h = omega arith
+part-is-short v Run bs h = omega arith
+part-is-short v Unknown bs h = omega arith
 
 bytes-are-marked : (l : Image.Loading) (bs : List ℕ) (f : Image.Loading → List ℕ → Image.Image) → 1 ≤ length bs → bytes-on l bs f ≡ marked-on (mark-of bs) l bs f
 unfolding bytes-on
@@ -33,7 +36,7 @@ some-bytes : (l : Image.Loading) (bs : List ℕ) → 1 ≤ length bs → image-a
 some-bytes l bs h = image-record-by-record l bs ∙ bytes-are-marked l bs _ h
 
 -- the mark is unknown, or the record isn't whole
-part-refused : (k : Mark) (l : Image.Loading) (bs : List ℕ) (f : Image.Loading → List ℕ → Image.Image) → length bs < size-of k → marked-on (as-mark k) l bs f ≡ refused-image 41
+part-refused : (k : Mark) (l : Image.Loading) (bs : List ℕ) (f : Image.Loading → List ℕ → Image.Image) → length bs < size-of (l .rules) k → marked-on (as-mark k) l bs f ≡ refused-image 41
 unfolding marked-on record-size
 part-refused Memory l bs f h = rw (lt-leb _ _ h)
 part-refused Start l bs f h = rw (lt-leb _ _ h)
@@ -45,25 +48,28 @@ no-length : (bs : List ℕ) → length bs ≡ 0 → bs ≡ []
 no-length [] e = refl
 no-length (b ∷ bs) e = absurd (omega arith)
 
-module _ (l : Image.Loading) (bs : List ℕ) (e : Bool) where
+module _ (x : Loading) (m bs : List ℕ) (e : Bool) where
+  abbrev l : Image.Loading
+  l = as-loading x m
+
   pub no-bytes : e ≡ true → length bs ≡ 0 → Goes l bs e (Refused 42) l
   unfolding Goes outcome-image
   no-bytes ended h rest f = rw (no-length bs h, f ended) (image-needs-rn l)
 
   module _ (k : Mark) (q : as-mark k ≡ mark-of bs) where
-    pub part-ended : e ≡ true → (length bs ≡ 0 → ⊥) → length bs < size-of k → Goes l bs e (Refused 41) l
-    unfolding Goes outcome-image
+    pub part-ended : e ≡ true → (length bs ≡ 0 → ⊥) → length bs < size-of (rules-of (x .«is_stored»)) k → Goes l bs e (Refused 41) l
+    unfolding Goes as-loading outcome-image
     part-ended ended n h rest f =
         ap (λ xs. image-after l (bs ++ xs)) (f ended) ∙ ap (image-after l) (append-nil bs) ∙ some-bytes l bs (omega arith)
-        ∙ ap (λ x. marked-on x l bs (λ j xs. image-after j xs)) (sym q) ∙ part-refused k l bs _ h
+        ∙ ap (λ o. marked-on o l bs (λ j xs. image-after j xs)) (sym q) ∙ part-refused k l bs _ h
 
-    pub unknown-mark : k ≡ Unknown → (s : ℕ) → s ≤ length bs → s ≡ size-of k → Goes l bs e (Refused 41) l
+    pub unknown-mark : k ≡ Unknown → (s : ℕ) → s ≤ length bs → s ≡ size-of (rules-of (x .«is_stored»)) k → Goes l bs e (Refused 41) l
     unfolding Goes outcome-image marked-on
     unknown-mark u s h z rest _ =
         let y : 2 ≤ length bs = rw (z, u) at h in
         let w = length-append bs rest in
         some-bytes l (bs ++ rest) (omega arith)
-        ∙ ap (λ x. marked-on x l (bs ++ rest) (λ j xs. image-after j xs)) (mark-of-front bs rest y ∙ sym q ∙ ap as-mark u)
+        ∙ ap (λ o. marked-on o l (bs ++ rest) (λ j xs. image-after j xs)) (mark-of-front bs rest y ∙ sym q ∙ ap as-mark u)
 
 -- A WHOLE RECORD of each mark
 module _ (k : Mark) (bs : List ℕ) (q : as-mark k ≡ mark-of bs) where
@@ -79,11 +85,11 @@ module _ (k : Mark) (bs : List ℕ) (q : as-mark k ≡ mark-of bs) where
   pub marked-rn : k ≡ Run → mark-of bs ≡ some Image.RN
   marked-rn e = sym q ∙ ap as-mark e
 
-module _ (k : Mark) (n s : ℕ) (h : s ≤ n) (q : s ≡ size-of k) where
+module _ (v : Image.Rules) (k : Mark) (n s : ℕ) (h : s ≤ n) (q : s ≡ size-of v k) where
   pub whole-me : k ≡ Memory → 6 ≤ n
   whole-me e = rw (q, e) at h
 
-  pub whole-st : k ≡ Start → 61 ≤ n
+  pub whole-st : k ≡ Start → Image.start-size v ≤ n
   whole-st e = rw (q, e) at h
 
   pub whole-wd : k ≡ Word → 14 ≤ n

@@ -11,12 +11,13 @@ use borrow.Author.Tests.{not-true, not-false, le-leb, lt-leb, ne-eqb}
 use Rattle.model.specs.Questions.{ask}
 use Rattle.model.specs.Run.{unless-refused}
 use Rattle.model.specs.Image as Image
-use Rattle.model.specs.Image.{ME, ST, RN, mark-of, record-size, number-at, registers-at, has, in-order, memory-allowed, address-allowed, address-new, record-questions, with-record, record-on, whole-record-on}
+use Rattle.model.specs.Image.{ME, ST, RN, mark-of, start-size, record-size, number-at, registers-at, delivery-at, has, in-order, memory-allowed, address-allowed, address-new, record-questions, with-record, record-on, whole-record-on}
+use Rattle.fields.proofs.MarkLaws.{start-has-registers}
 use Rattle.host.specs.declared.record.Registers.{Registers}
-use Rattle.host.specs.Record.{registers-of}
+use Rattle.host.specs.Record.{registers-of, delivery-of}
 use Rattle.loading.specs.declared.Loading.{Loading}
 use Rattle.loading.specs.declared.Outcome.the-variants.{Refused, Waits, Next, Ready}
-use Rattle.loading.specs.View.{as-loading, Memory-within}
+use Rattle.loading.specs.View.{rules-of, as-loading, Memory-within}
 use Rattle.loading.specs.Record.{outcome-image, Goes}
 use Rattle.loading.proofs.RecordLaws.{record-at-front, number-in-record, out-of-order}
 
@@ -28,12 +29,6 @@ take-replicate (suc n) (suc k) v h = ap (λ xs. v ∷ xs) (take-replicate n k v 
 pub given-within : (n : ℕ) (m : List ℕ) → n ≤ 8192 → Memory-within true n m
 unfolding Memory-within
 given-within n m h = h
-
-pub record-length : (n : ℕ) (bs : List ℕ) → n ≤ length bs → n ≡ length (take n bs)
-record-length n bs h = sym (length-take-le n bs h)
-
-pub record-is-whole : (n : ℕ) (bs : List ℕ) → n ≤ length bs → n ≤ length (take n bs)
-record-is-whole n bs h = let y = record-length n bs h in omega arith
 
 -- ME
 module _ (x : Loading) (m bs : List ℕ) (e : Bool) (is-marked : mark-of bs ≡ some ME) (whole : 6 ≤ length bs) where
@@ -47,17 +42,30 @@ module _ (x : Loading) (m bs : List ℕ) (e : Bool) (is-marked : mark-of bs ≡ 
 
     pub me-too-large : 8192 < n → Goes (as-loading x m) bs e (Refused 43) (as-loading x m)
     unfolding Goes as-loading outcome-image record-size whole-record-on record-questions in-order memory-allowed ask has unless-refused
-    me-too-large g rest _ = record-at-front ME bs is-marked whole (as-loading x m) rest ∙ rw (h, size, lt-leb _ _ g)
+    me-too-large g rest _ = record-at-front ME (as-loading x m) bs is-marked whole rest ∙ rw (h, size, lt-leb _ _ g)
 
     pub me-loaded : n ≤ 8192 → Memory-within (x .«has_memory») (x .words) m →
         Goes (as-loading x m) bs e (Next 6) (as-loading (record { «is_stored» = x .«is_stored»; «has_memory» = true; words = n; «has_registers» = x .«has_registers»; registers = x .registers }) m)
     unfolding Goes as-loading outcome-image record-size whole-record-on record-questions in-order memory-allowed address-allowed address-new record-on with-record ask has unless-refused Memory-within
     me-loaded g z rest _ =
         let zeros : replicate {A = ℕ} n 0 ≡ take n m = sym (ap (take n) (rw h at z) ∙ take-replicate n 8320 0 (omega arith)) in
-        record-at-front ME bs is-marked whole (as-loading x m) rest ∙ rw (h, size, le-leb _ _ g, zeros)
+        record-at-front ME (as-loading x m) bs is-marked whole rest ∙ rw (h, size, le-leb _ _ g, zeros)
 
--- ST
-module _ (x : Loading) (m bs : List ℕ) (e : Bool) (is-marked : mark-of bs ≡ some ST) (whole : 61 ≤ length bs) where
+-- ST, of so many bytes as the rules give it
+module _ (v : Bool) (n : ℕ) (bs : List ℕ) (sized : n ≡ start-size (rules-of v)) (whole : start-size (rules-of v) ≤ length bs) where
+  pub start-length : n ≡ length (take n bs)
+  start-length = sym (length-take-le n bs (omega arith))
+
+  pub start-is-whole : start-size (rules-of v) ≤ length (take n bs)
+  start-is-whole = let y = start-length in omega arith
+
+  pub start-used : 6 ≤ n
+  start-used = let y = start-has-registers v in omega arith
+
+  pub start-within-bytes : n ≤ length bs
+  start-within-bytes = omega arith
+
+module _ (x : Loading) (m bs : List ℕ) (e : Bool) (is-marked : mark-of bs ≡ some ST) (whole : start-size (rules-of (x .«is_stored»)) ≤ length bs) where
   pub st-before-me : x .«has_memory» ≡ false → Goes (as-loading x m) bs e (Refused 42) (as-loading x m)
   unfolding as-loading record-size in-order has
   st-before-me h = out-of-order ST x m bs e is-marked whole (λ rest. rw h)
@@ -67,10 +75,11 @@ module _ (x : Loading) (m bs : List ℕ) (e : Bool) (is-marked : mark-of bs ≡ 
     unfolding as-loading record-size in-order has
     second-st g = out-of-order ST x m bs e is-marked whole (λ rest. rw (h, g))
 
-    pub st-loaded : x .«has_registers» ≡ false → (r : Registers) → registers-of r ≡ registers-at (take 61 bs) →
-        Goes (as-loading x m) bs e (Next 61) (as-loading (record { «is_stored» = x .«is_stored»; «has_memory» = x .«has_memory»; words = x .words; «has_registers» = true; registers = r }) m)
+    pub st-loaded : x .«has_registers» ≡ false → (size : ℕ) (r : Registers) → size ≡ start-size (rules-of (x .«is_stored»)) →
+        registers-of r ≡ registers-at (take size bs) → delivery-of r ≡ delivery-at (rules-of (x .«is_stored»)) (take size bs) →
+        Goes (as-loading x m) bs e (Next size) (as-loading (record { «is_stored» = x .«is_stored»; «has_memory» = x .«has_memory»; words = x .words; «has_registers» = true; registers = r }) m)
     unfolding Goes as-loading outcome-image record-size whole-record-on record-questions in-order memory-allowed address-allowed address-new record-on with-record ask has unless-refused
-    st-loaded g r q rest _ = record-at-front ST bs is-marked whole (as-loading x m) rest ∙ rw (h, g, ← q)
+    st-loaded g size r s q d rest _ = record-at-front ST (as-loading x m) bs is-marked whole rest ∙ rw (h, g, ← s, ← q, ← d)
 
 -- RN
 module _ (x : Loading) (m bs : List ℕ) (e : Bool) (is-marked : mark-of bs ≡ some RN) (whole : 6 ≤ length bs) where
@@ -94,17 +103,17 @@ module _ (x : Loading) (m bs : List ℕ) (e : Bool) (is-marked : mark-of bs ≡ 
       unfolding Goes as-loading outcome-image record-size whole-record-on record-questions in-order memory-allowed address-allowed address-new record-on ask has unless-refused
       rn-ends k ended b q rest f =
           let budget : number-at 2 4 (take 6 bs) ≡ b = number-in-record 6 2 4 bs whole (omega arith) ∙ sym q in
-          record-at-front RN bs is-marked whole (as-loading x m) rest ∙ rw (h, g, f ended, drop-of-length-le bs k, budget)
+          record-at-front RN (as-loading x m) bs is-marked whole rest ∙ rw (h, g, f ended, drop-of-length-le bs k, budget)
 
 pub waits : (l : Image.Loading) (bs : List ℕ) (e : Bool) → Goes l bs e Waits l
 unfolding Goes outcome-image
 waits l bs e rest _ = refl
 
-pub short-run : (bs : List ℕ) → length bs ≤ 6 → length bs < 61
+pub short-run : (bs : List ℕ) → length bs ≤ 6 → length bs < 66
 short-run bs h = omega arith
 
 pub ruleset memory-loaded = (given-within, second-me, me-too-large, me-loaded)
 
-pub ruleset start-loaded = (not-true, not-false, record-length, record-is-whole, st-before-me, second-st, st-loaded)
+pub ruleset start-loaded = (not-true, not-false, start-length, start-is-whole, start-used, start-within-bytes, st-before-me, second-st, st-loaded)
 
 pub ruleset run-loaded = (not-true, not-false, rn-before-me, rn-before-st, rn-not-last, rn-ends, waits, short-run)

@@ -5,11 +5,13 @@ ghost use Prim.Native.Nat.{_≤_, _<_};
 ghost use lib.ListN.{length};
 ghost use Rattle.model.specs.Image as Image;
 ghost use Rattle.fields.specs.Mark.{as-mark, size-of};
+ghost use Rattle.fields.specs.Rules.{rules-of};
 ghost use Rattle.loading.specs.Record.{Recorded-as, Recorded-by-itself, Recorded-with-any-memory};
 ghost use Rattle.loading.specs.View.{Loading-within};
 use fields::mark::Mark;
 use fields::mark::mark_of;
 use fields::mark::size_of;
+use fields::mark::start_size;
 use fields::number::number_4;
 use fields::registers::registers_at;
 use loading::Loading;
@@ -47,9 +49,9 @@ fn load_memory(loading: Loading, bytes: &[u8]) -> Recorded
     }
 }
 
-// ST: 42 before ME and for a second one, and the registers.
+// ST: 42 before ME and for a second one, and the registers, of as many bytes as the rules give it.
 fn load_start(loading: Loading, bytes: &[u8]) -> Recorded
-    requires { ⌜ (Image.mark-of (now bytes) ≡ some Image.ST) × (61 ≤ length (now bytes)) ⌝ }
+    requires { ⌜ (Image.mark-of (now bytes) ≡ some Image.ST) × (Image.start-size (rules-of (loading .«is_stored»)) ≤ length (now bytes)) ⌝ }
     ensures { λ x. ⌜ Recorded-by-itself loading (now (bytes .entry)) x ⌝ }
 {
     if !loading.has_memory {
@@ -64,7 +66,8 @@ fn load_start(loading: Loading, bytes: &[u8]) -> Recorded
             outcome: Outcome::Refused(42),
         };
     }
-    let registers = registers_at(&bytes[..61]);
+    let size = start_size(loading.is_stored);
+    let registers = registers_at(&bytes[..size], loading.is_stored);
     Recorded {
         loading: Loading {
             is_stored: loading.is_stored,
@@ -73,7 +76,7 @@ fn load_start(loading: Loading, bytes: &[u8]) -> Recorded
             has_registers: true,
             registers,
         },
-        outcome: Outcome::Next(61),
+        outcome: Outcome::Next(size),
     }
 }
 
@@ -114,7 +117,7 @@ fn load_run(loading: Loading, bytes: &[u8], ended: bool) -> Recorded
 
 // No whole record: 42 for no bytes at all and 41 for some, once they are ended.
 fn load_part(loading: Loading, mark: Mark, bytes: &[u8], ended: bool) -> Recorded
-    requires { ⌜ (as-mark mark ≡ Image.mark-of (now bytes)) × (length (now bytes) < size-of mark) ⌝ }
+    requires { ⌜ (as-mark mark ≡ Image.mark-of (now bytes)) × (length (now bytes) < size-of (rules-of (loading .«is_stored»)) mark) ⌝ }
     ensures { λ x. ⌜ Recorded-with-any-memory loading (now (bytes .entry)) ended x ⌝ }
 {
     if ended {
@@ -141,7 +144,7 @@ pub fn load_record(loading: Loading, store: &mut [u64], bytes: &[u8], ended: boo
     ensures { λ x. ⌜ Recorded-as loading (now (store .entry)) (now (bytes .entry)) ended x (now (store .exit)) ⌝ }
 {
     let mark = mark_of(bytes);
-    if bytes.len() < size_of(mark) {
+    if bytes.len() < size_of(mark, loading.is_stored) {
         return load_part(loading, mark, bytes, ended);
     }
     match mark {

@@ -1,12 +1,12 @@
 -- The bench's call is what 03's contract says. Assumes nothing.
-use mathlib.Core.Path.{refl, _∙_, ap, subst}
+use mathlib.Core.Path.{refl, subst}
 use mathlib.Core.Bool.{Bool, true, false, not, cond}
 use mathlib.Core.List.{List}
 use Prim.Native.Nat.{ℕ, zero, suc, _+_, _*_, _≤_}
 use native.Mathlib.Omega.{arith}
 use lib.Dec.{ltb, eqb, eqb·suc-zero}
 use lib.ListN.{length}
-use Rattle.model.specs.Image.{Image, refused-image, loaded, image}
+use Rattle.model.specs.Image.{Image, refused-image, loaded, stored-image}
 use Rattle.model.proofs.ConvertLaws.{rules-agree}
 use Rattle.model.specs.Bench.{negated, call-refused, call-wrote, bench-on, bench}
 use Rattle.reference.specs.Run as Run03
@@ -16,7 +16,7 @@ use Rattle.reference.specs.Equal.{Bench-equal}
 use Rattle.reference.proofs.TestLaws.{leb-is-not-ltb}
 use Rattle.reference.proofs.Images.{image-equal}
 use Rattle.reference.proofs.ImageLaws.{Judged, image-judged}
-use Rattle.reference.proofs.Listings.{listing-equal}
+use Rattle.reference.proofs.Listings.{loaded-listing}
 
 -- 03's contract, of an image it has read
 unfoldable Says-of : Run03.Image → Image → (out : List ℕ) → Type 0
@@ -28,7 +28,8 @@ bench-says : (x : Image) (out : List ℕ) → Judged x → Says-of (View.image x
 unfolding Says-of Judged negated call-refused call-wrote bench-on View.image Run03.bad-image Entry03.Bench-says
 bench-says (refused-image zero) out s = absurd (let z : 1 ≤ 0 = s in omega arith)
 bench-says (refused-image (suc n)) out s = rw (eqb·suc-zero n) (refl, refl)
-bench-says (loaded m b) out s = rw (leb-is-not-ltb (64 * (b + 1)) (length out), listing-equal b m s) (by-test (ltb (length out) (64 * (b + 1))))
+bench-says (loaded v m b) out s =
+    rw (leb-is-not-ltb (64 * (b + 1)) (length out), loaded-listing v m b s) (by-test (ltb (length out) (64 * (b + 1))))
   where
     text : List ℕ
     text = Run03.listing View.pointers b (View.machine m)
@@ -42,4 +43,5 @@ bench-says (loaded m b) out s = rw (leb-is-not-ltb (64 * (b + 1)) (length out), 
 pub bench-equal : Bench-equal
 unfolding bench Says-of Entry03.bench-refusal Entry03.listing-of
 bench-equal bs out once =
-    subst (λ (i : Run03.Image). Says-of i (image bs) out) (ap View.image (rules-agree bs once) ∙ image-equal bs) (bench-says (image bs) out (image-judged bs))
+    rw (rules-agree bs once)
+    (subst (λ (i : Run03.Image). Says-of i (stored-image bs) out) (image-equal bs) (bench-says (stored-image bs) out (image-judged bs)))

@@ -1,15 +1,16 @@
 -- A step of the model halts where 03's test says so. Assumes nothing.
 use mathlib.Core.Path.{_≡_, refl, _∙_, ap₂}
+use mathlib.Core.List.{List}
 use mathlib.Core.Bool.{Bool, true, false, _&&_, _||_, not, cond, true≢false}
 use Prim.Native.Nat.{ℕ, zero, suc}
 use lib.Dec.{leb, eqb, eqb·suc-zero}
 use lib.ListN.{length}
 use Rattle.model.specs.Words.{Pointer, instruction-in}
-use Rattle.model.specs.Registers.{Machine, dbr-in}
-use Rattle.model.specs.Opcodes.{Access, sets, reads, writes, updates, transfers, calls, returns, loads-dbr, ends-run, decoded, LDA, STA, ADA, SBA, ANA, ORA, XRA, CNT, AOS, EAP, SPP, TRA, TZE, TMI, CALL, RETURN, LDBR}
-use Rattle.model.specs.Questions.{ask, dbr-fits, may-execute, fetch-questions}
+use Rattle.model.specs.Registers.{Dbr, Registers, Machine, dbr-in}
+use Rattle.model.specs.Opcodes.{Access, sets, reads, writes, updates, transfers, calls, returns, loads-dbr, ends-run, restores, decoded, LDA, STA, ADA, SBA, ANA, ORA, XRA, CNT, AOS, EAP, SPP, TRA, TZE, TMI, CALL, RETURN, LDBR, RCU}
+use Rattle.model.specs.Questions.{ask, rings-at-least, dbr-fits, may-execute, fetch-questions}
 use Rattle.model.specs.Program.{Outcome, Program, fail, execute, word-at, descriptor-of, or-fault}
-use Rattle.model.specs.Step.{first-address, chain, load, store, update, transfer, call, return, load-dbr, perform, obey, step-program, step}
+use Rattle.model.specs.Step.{first-address, chain, load, store, update, transfer, call, return, if-dbr-fits, load-dbr, read-words, take-up, restore, perform, obey, step-program, step}
 use Rattle.model.proofs.TableLaws.{Each}
 use Rattle.model.proofs.Computing.{by-computation}
 use Rattle.model.proofs.BranchLaws.{cond-holds}
@@ -41,11 +42,29 @@ ends calls = false
 ends returns = false
 ends loads-dbr = false
 ends ends-run = true
+ends restores = false
 
 module _ (m : Machine) (w : ℕ) where
+  -- LDBR and RCU, whose 34 and 52 are branches
+  fits-never : (b : Dbr) (t : Pointer) (p : Program) → View.is-halt (execute m p) ≡ false →
+      View.is-halt (execute m (if-dbr-fits (length (m .memory)) b t p)) ≡ false
+  unfolding if-dbr-fits execute View.is-halt
+  fits-never b t p h = cond-holds (λ p. View.is-halt (execute m p) ≡ false) (dbr-fits (length (m .memory)) b) (λ _. h) (λ _. refl)
+
+  words-never : (n : ℕ) (t : Pointer) (f : List ℕ → Program) → ((ws : List ℕ) → View.is-halt (execute m (f ws)) ≡ false) →
+      View.is-halt (execute m (read-words n t f)) ≡ false
+  unfolding read-words execute
+  words-never zero t f h = h _
+  words-never (suc n) t f h = or-fault-never _ t _ (words-never n _ _ (λ ws. h _))
+
+  taken-never : (t : Pointer) (r : Registers) → View.is-halt (execute m (take-up (length (m .memory)) t r)) ≡ false
+  unfolding take-up execute View.is-halt
+  taken-never t r =
+      fits-never (r .dbr) t _ (cond-holds (λ p. View.is-halt (execute m p) ≡ false) (rings-at-least (r .ipr .ring) (r .prs)) (λ _. refl) (λ _. refl))
+
   perform-never : (k : Access) (t : Pointer) → ends k ≡ false →
       View.is-halt (execute m (perform (length (m .memory)) k (instruction-in w) (m .registers) t)) ≡ false
-  unfolding ends load store update transfer call return load-dbr perform execute View.is-halt
+  unfolding ends load store update transfer call return load-dbr restore perform execute View.is-halt
   perform-never (sets f) t e = refl
   perform-never (reads f) t e = or-fault-never _ t _ refl
   perform-never (writes f) t e = or-fault-never _ t _ refl
@@ -54,9 +73,9 @@ module _ (m : Machine) (w : ℕ) where
       cond-holds (λ p. View.is-halt (execute m p) ≡ false) (f (m .registers .a)) (λ _. or-fault-never _ t _ refl) (λ _. refl)
   perform-never calls t e = or-fault-never _ t _ refl
   perform-never returns t e = or-fault-never _ t _ refl
-  perform-never loads-dbr t e =
-      or-fault-never _ t _ (cond-holds (λ p. View.is-halt (execute m p) ≡ false) (dbr-fits (length (m .memory)) (dbr-in (word-at m t))) (λ _. refl) (λ _. refl))
+  perform-never loads-dbr t e = or-fault-never _ t _ (fits-never (dbr-in (word-at m t)) t _ refl)
   perform-never ends-run t e = absurd (true≢false e)
+  perform-never restores t e = or-fault-never _ t _ (words-never 13 t _ (λ ws. taken-never t _))
 
   chain-never : (f : Pointer → Program) → ((t : Pointer) → View.is-halt (execute m (f t)) ≡ false) → (left : ℕ) (i : Bool) (t : Pointer) →
       View.is-halt (execute m (chain left i t f)) ≡ false
@@ -110,6 +129,7 @@ module _ (m : Machine) (w : ℕ) where
         return = operand-never (RETURN .access) refl;
         ldbr = privileged-halts (eqb (m .registers .ipr .ring) 0) _ false (operand-never (LDBR .access) refl);
         hlt = privileged-halts (eqb (m .registers .ipr .ring) 0) _ true refl;
+        rcu = privileged-halts (eqb (m .registers .ipr .ring) 0) _ false (operand-never (RCU .access) refl);
       }
 
   halts-as : (o : ℕ) → Halts-as o

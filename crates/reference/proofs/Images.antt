@@ -8,10 +8,10 @@ use native.Mathlib.Omega.{arith}
 use lib.Dec.{ltb, leb, eqb, eqb·suc-zero}
 use lib.ListN.{length, getD, set, drop, replicate, length-drop}
 use borrow.Author.Tests.{eqb-true, ltb-true, ltb-false, eq-eqb, ne-eqb}
-use Rattle.model.specs.Registers.{Machine, machine}
+use Rattle.model.specs.Registers.{no-delivery, Machine, machine}
 use Rattle.model.specs.Questions.{ask, start-questions}
 use Rattle.model.specs.Run.{unless-refused}
-use Rattle.model.specs.Image.{Mark, ME, ST, WD, RN, marked, mark-of, record-size, number-at, stored, Loading, nothing-loaded, has, or-else, memory-of, zero-registers, machine-of, in-order, memory-allowed, address-allowed, unless-written, address-new, record-questions, with-word, with-record, Image, refused-image, loaded, checked, record-on, whole-record-on, marked-on, bytes-on, image-from, image-after, stored-image}
+use Rattle.model.specs.Image.{Mark, ME, ST, WD, RN, marked, mark-of, start-size, record-size, number-at, stored, Loading, nothing-loaded, has, or-else, memory-of, zero-registers, machine-of, in-order, memory-allowed, address-allowed, unless-written, address-new, record-questions, with-word, with-record, Image, refused-image, loaded, checked, record-on, whole-record-on, marked-on, bytes-on, image-from, image-after, stored-image}
 use Rattle.model.proofs.BranchLaws.{and-left}
 use Rattle.model.proofs.QuestionLaws.{ask-yes}
 use Rattle.reference.specs.Run as Run03
@@ -20,6 +20,7 @@ use Rattle.reference.specs.Equal.{Image-equal}
 use Rattle.reference.proofs.TestLaws.{leb-is-not-ltb, ltb-is-not-leb, ask-is-cond}
 use Rattle.reference.proofs.Numbers.{number-equal, registers-at-view}
 use Rattle.reference.proofs.Start.{start-equal}
+use Rattle.reference.proofs.ImageLaws.{Stored, stored-with}
 
 -- what the records so far gave, as 03 holds it
 abbrev loading : Loading → Run03.Image
@@ -131,11 +132,11 @@ none-after bs = by-test (ltb 6 (length bs)) refl
 abbrev ready : Machine → (budget : ℕ) → Run03.Image
 ready m b = record { refusal = 0; has-me = true; has-st = true; regs = View.regs (m .registers); mem = m .memory; budget = b }
 
-checked-view : (m : Machine) (b : ℕ) → View.image (checked m b) ≡ Run03.checked (ready m b)
+checked-view : (m : Machine) (b : ℕ) → View.image (checked no-delivery m b) ≡ Run03.checked (ready m b)
 unfolding checked unless-refused View.image Run03.checked
-checked-view m b = rw (← (start-equal m)) (by-answer (start-questions m))
+checked-view m b = rw (← (start-equal m)) (by-answer (start-questions no-delivery m))
   where
-    by-answer : (k : ℕ) → View.image (unless-refused k refused-image (loaded m b)) ≡ cond (eqb k 0) (ready m b) (Run03.bad-image k)
+    by-answer : (k : ℕ) → View.image (unless-refused k refused-image (loaded no-delivery m b)) ≡ cond (eqb k 0) (ready m b) (Run03.bad-image k)
     by-answer zero = refl
     by-answer (suc k) = rw (eqb·suc-zero k) refl
 
@@ -149,8 +150,8 @@ not-asked : (b : Bool) → b ≡ true → ask b 51 0 ≡ 0
 unfolding ask
 not-asked b e = rw e refl
 
-module _ (n : ℕ) (l : Loading) (bs : List ℕ) (v : l .rules ≡ stored) (f : Loading → List ℕ → Image)
-    (h : (j : Loading) (rest : List ℕ) → j .rules ≡ stored → View.image (f j rest) ≡ Run03.image-from n (loading j) rest) where
+module _ (n : ℕ) (l : Loading) (bs : List ℕ) (v : Stored l) (f : Loading → List ℕ → Image)
+    (h : (j : Loading) (rest : List ℕ) → Stored j → View.image (f j rest) ≡ Run03.image-from n (loading j) rest) where
   unfoldable Read-alike : (me st wd rn : Bool) → Type 0
   Read-alike me st wd rn = View.image (marked-on (mark-by me st wd rn) l bs f) ≡ read-by me st wd rn n (loading l) bs
 
@@ -165,8 +166,13 @@ module _ (n : ℕ) (l : Loading) (bs : List ℕ) (v : l .rules ≡ stored) (f : 
       (ask-is-cond (leb (number-at 2 4 bs) 8192) (ltb 8192 (Run03.big 2 4 bs)) 43
       (ap (λ x. leb x 8192) (number-equal 2 4 bs) ∙ leb-is-not-ltb (Run03.big 2 4 bs) 8192) (ask-is-cond true false 44 refl (not-asked true refl)))))
       (λ _.
-      h (with-record ME l bs) (drop 6 bs) v
+      h (with-record ME l bs) (drop 6 bs) (stored-with ME l bs v)
       ∙ ap (λ x. Run03.image-from n (record { refusal = 0; has-me = true; has-st = has (l .registers); regs = View.regs (or-else zero-registers (l .registers)); mem = replicate x 0; budget = 0 }) (drop 6 bs)) (number-equal 2 4 bs))
+
+  -- ST is 03's, of 59 bytes after its mark
+  start-is-61 : start-size (l .rules) ≡ 61
+  unfolding start-size
+  start-is-61 = rw (v .0) refl
 
   st-alike : Read-alike false true false false
   unfolding Read-alike records-opened
@@ -174,18 +180,19 @@ module _ (n : ℕ) (l : Loading) (bs : List ℕ) (v : l .rules ≡ stored) (f : 
       let long = length bs in
       let a = has (l .memory) in
       let b = has (l .registers) in
-      record-view (leb 61 long) (record-questions ST l (length (drop 61 bs)) bs) (refusal-of false true false false (loading l) bs) _ _
+      rw start-is-61
+      (record-view (leb 61 long) (record-questions ST l (length (drop 61 bs)) bs) (refusal-of false true false false (loading l) bs) _ _
       (ask-is-cond (leb 61 long) (ltb long 61) 41 (leb-is-not-ltb 61 long)
       (ask-is-cond (a && not b) ((cond a false true || b) || false) 42 (st-single a b)
       (ask-is-cond true false 43 refl (ask-is-cond true false 44 refl (not-asked true refl)))))
       (λ e.
-      h (with-record ST l bs) (drop 61 bs) v
+      h (with-record ST l bs) (drop 61 bs) (stored-with ST l bs v)
       ∙ ap₂ (λ t r. Run03.image-from n (record { refusal = 0; has-me = t; has-st = true; regs = r; mem = memory-of l; budget = 0 }) (drop 61 bs))
-      (and-left a (not b) (ask-yes (a && not b) _ _ (ask-yes (leb 61 long) _ _ e .1) .0)) (registers-at-view bs))
+      (and-left a (not b) (ask-yes (a && not b) _ _ (ask-yes (leb 61 long) _ _ e .1) .0)) (registers-at-view bs)))
 
   may-write : address-new WD l bs ≡ true
   unfolding address-new unless-written
-  may-write = rw v refl
+  may-write = rw (v .0) refl
 
   wd-alike : Read-alike false false true false
   unfolding Read-alike records-opened
@@ -199,7 +206,7 @@ module _ (n : ℕ) (l : Loading) (bs : List ℕ) (v : l .rules ≡ stored) (f : 
       (ask-is-cond (ltb (number-at 2 4 bs) (length (memory-of l))) (leb (length (memory-of l)) (Run03.big 2 4 bs)) 44
       (ap (λ x. ltb x (length (memory-of l))) (number-equal 2 4 bs) ∙ ltb-is-not-leb (Run03.big 2 4 bs) (length (memory-of l))) (not-asked (address-new WD l bs) may-write)))))
       (λ _.
-      h (with-record WD l bs) (drop 14 bs) v
+      h (with-record WD l bs) (drop 14 bs) (stored-with WD l bs v)
       ∙ ap₂ (λ x c. Run03.image-from n (record { refusal = 0; has-me = true; has-st = has (l .registers); regs = View.regs (or-else zero-registers (l .registers)); mem = set (memory-of l) x c; budget = 0 }) (drop 14 bs))
       (number-equal 2 4 bs) (number-equal 6 8 bs))
 
@@ -213,7 +220,8 @@ module _ (n : ℕ) (l : Loading) (bs : List ℕ) (v : l .rules ≡ stored) (f : 
       (ask-is-cond (leb 6 long) (ltb long 6) 41 (leb-is-not-ltb 6 long)
       (ask-is-cond (a && (b && eqb (length (drop 6 bs)) 0)) ((cond a false true || false) || (not b || ltb 6 long)) 42
       (rn-last a b (eqb (length (drop 6 bs)) 0) (ltb 6 long) (none-after bs)) (ask-is-cond true false 43 refl (ask-is-cond true false 44 refl (not-asked true refl)))))
-      (λ _. checked-view (machine-of l) (number-at 2 4 bs) ∙ ap (λ x. Run03.checked (ready (machine-of l) x)) (number-equal 2 4 bs))
+      (λ _.
+      ap (λ u. View.image (checked u (machine-of l) (number-at 2 4 bs))) (v .1) ∙ checked-view (machine-of l) (number-at 2 4 bs) ∙ ap (λ x. Run03.checked (ready (machine-of l) x)) (number-equal 2 4 bs))
 
   none-alike : Read-alike false false false false
   unfolding Read-alike records-opened View.image
@@ -225,7 +233,7 @@ module _ (n : ℕ) (l : Loading) (bs : List ℕ) (v : l .rules ≡ stored) (f : 
   alike = mark-cases Read-alike bs me-alike st-alike wd-alike rn-alike none-alike
 
 -- THE IMAGE
-image-from-view : (n : ℕ) (l : Loading) (bs : List ℕ) → l .rules ≡ stored → View.image (image-from n l bs) ≡ Run03.image-from n (loading l) bs
+image-from-view : (n : ℕ) (l : Loading) (bs : List ℕ) → Stored l → View.image (image-from n l bs) ≡ Run03.image-from n (loading l) bs
 unfolding image-from bytes-on View.image long-of refusal-of record-of read-by Run03.image-from Run03.record-refusal Run03.record-long Run03.with-record
 image-from-view zero l bs v = refl
 image-from-view (suc n) l [] v = refl
@@ -234,4 +242,4 @@ image-from-view (suc n) l (b ∷ bs) v =
 
 pub image-equal : Image-equal
 unfolding stored-image image-after has or-else memory-of Run03.image
-image-equal bs = image-from-view (suc (length bs)) (nothing-loaded stored) bs refl
+image-equal bs = image-from-view (suc (length bs)) (nothing-loaded stored) bs (refl, refl)

@@ -32,6 +32,7 @@ outside-unknown n out =
     let past-10 : 6 ≤ n → 11 ≤ n =
     λ h. above 10 n (out .ldi) (above 9 n (out .aos) (above 8 n (out .cnt) (above 7 n (out .xra) (above 6 n (out .ora) h)))) in
     let past-26 : 24 ≤ n → 27 ≤ n = λ h. above 26 n (out .tmi) (above 25 n (out .tze) (above 24 n (out .tra) h)) in
+    let past-42 : 40 ≤ n → 43 ≤ n = λ h. above 42 n (out .rcu) (above 41 n (out .hlt) (above 40 n (out .ldbr) h)) in
     rw (
       range-fails 1 10 n (λ p q. not-le-of-lt (past-10 (past-5 p)) q),
       range-fails 24 26 n (λ p q. not-le-of-lt (past-26 p) q),
@@ -39,8 +40,7 @@ outside-unknown n out =
       ne-eqb n 17 (out .spp),
       ne-eqb n 32 (out .call),
       ne-eqb n 33 (out .return),
-      ne-eqb n 40 (out .ldbr),
-      ne-eqb n 41 (out .hlt),
+      range-fails 40 42 n (λ p q. not-le-of-lt (past-42 p) q),
     ) refl
 
 pub opcode-cases : (P : ℕ → Type 0) → Each (λ o. P (o .number)) → ((n : ℕ) → Step03.known n ≡ false → decoded n ≡ none → P n) → (n : ℕ) → P n

@@ -1,23 +1,28 @@
 -- Each access of the model is what 03 performs for it. Assumes nothing.
 use mathlib.Core.Path.{_≡_, refl, sym, _∙_, ap, ap₂}
 use mathlib.Core.Bool.{Bool, true, false, _&&_, _||_, not, cond}
-use mathlib.Core.List.{List, [], _∷_, map}
+use mathlib.Core.List.{List, [], _∷_, map, map-map}
 use Prim.Native.Nat.{ℕ, zero, suc, _+_}
 use lib.Dec.{ltb, leb, eqb, eqb·suc-zero}
-use lib.ListN.{length, set}
-use Rattle.model.specs.Words.{field, Pointer, Instruction}
+use native.Mathlib.Omega.{arith}
+use lib.ListN.{length, set, take, drop}
+use Rattle.model.specs.Words.{field, Pointer, pointer-in, Instruction}
 use Rattle.model.specs.Registers.{Registers, Machine, machine, dbr-in, with-a, with-dbr, with-ipr, with-prs, with-pr, moved-by, with-ring-at-least, advanced}
-use Rattle.model.specs.Opcodes.{reads, writes, updates, transfers, calls, returns, loads-dbr}
-use Rattle.model.specs.Questions.{dbr-fits, read-questions, write-questions, new-ring}
-use Rattle.model.specs.Program.{execute, word-at, absolute-address, use-answer, descriptor-of}
-use Rattle.model.specs.Step.{stack-base, called, returned, load, store, update, transfer, call, return, load-dbr, perform}
+use Rattle.model.specs.Opcodes.{reads, writes, updates, transfers, calls, returns, loads-dbr, restores}
+use Rattle.model.specs.Questions.{rings-at-least, dbr-fits, may-read, read-questions, part-questions, write-questions, new-ring}
+use Rattle.model.specs.Program.{Program, fail, execute, word-at, absolute-address, use-answer, descriptor-of}
+use Rattle.model.specs.Step.{stack-base, called, returned, load, store, update, transfer, call, return, if-dbr-fits, load-dbr, registers-in, take-up, restore, perform}
 use Rattle.model.proofs.BranchLaws.{cond-rel}
+use Rattle.model.proofs.QuestionLaws.{use-passes-segment, word-within-segment}
+use Rattle.model.proofs.ProgramLaws.{use-passes, answer-passes}
+use Rattle.model.proofs.DeliveredLaws.{words-read}
 use Rattle.reference.specs.Machine as Machine03
 use Rattle.reference.specs.Step as Step03
 use Rattle.reference.specs.View as View
-use Rattle.reference.proofs.TestLaws.{leb-is-not-ltb, and-is-not-or}
+use Rattle.reference.proofs.TestLaws.{not-not}
 use Rattle.reference.proofs.ListLaws.{map-set}
-use Rattle.reference.proofs.Uses.{words-opened, read-answer, write-answer, return-answer, transfer-answer, call-answer, or-fault-view}
+use Rattle.reference.proofs.Start.{rings-not-below, dbr-fits-view}
+use Rattle.reference.proofs.Uses.{words-opened, read-answer, last-of-frame, frame-answer, write-answer, return-answer, transfer-answer, call-answer, or-fault-view}
 
 -- registers changed and machines of both, opened together
 unfoldable pub registers-opened : Unit {0}
@@ -60,11 +65,34 @@ unfolding Step03.or-fault
 or-fault-twice zero c e t x = sym (or-fault-then c e t x)
 or-fault-twice (suc u) c e t x = rw (eqb·suc-zero u, eqb·suc-zero u)
 
--- 34
-or-fault-34 : (b c : Bool) (t : Machine03.Place) (x y : Step03.Stepped) → b ≡ not c → y ≡ Step03.fault 34 t → cond b x y ≡ Step03.or-fault (cond c 34 0) t x
+-- what comes after questions matters only where they pass
+or-fault-same : {k c : ℕ} (t : Machine03.Place) {x y : Step03.Stepped} → c ≡ k → (k ≡ 0 → x ≡ y) → Step03.or-fault c t x ≡ Step03.or-fault k t y
 unfolding Step03.or-fault
-or-fault-34 b true t x y p q = rw p q
-or-fault-34 b false t x y p q = rw p refl
+or-fault-same {k} t {x} {y} e f = rw e (by-answer k f)
+  where
+    by-answer : (k : ℕ) → (k ≡ 0 → x ≡ y) → Step03.or-fault k t x ≡ Step03.or-fault k t y
+    by-answer zero f = f refl
+    by-answer (suc k) f = refl
+
+-- a branch that fails with a number of its own: 34 and 52
+or-fail-view : (m : Machine) (b c : Bool) (n k : ℕ) (t : Pointer) (p : Program) (x : Step03.Stepped) → b ≡ not c →
+    View.outcome (execute m p) ≡ Step03.or-fault k (View.place t) x →
+    View.outcome (execute m (cond b p (fail (suc n) t))) ≡ Step03.or-fault (cond c (suc n) k) (View.place t) x
+unfolding execute View.outcome Step03.or-fault
+or-fail-view m b true n k t p x e h = rw e refl
+or-fail-view m b false n k t p x e h = rw e h
+
+-- the registers in a frame
+frame-view : (ws : List ℕ) → View.regs (registers-in ws) ≡ Step03.frame-regs ws
+unfolding words-opened registers-in pointer-in dbr-in Step03.place-in-word Step03.frame-regs
+frame-view ws i =
+    record {
+      a = Step03.frame-regs ws .a;
+      base = Step03.frame-regs ws .base;
+      bound = Step03.frame-regs ws .bound;
+      ipr = Step03.frame-regs ws .ipr;
+      prs = map-map View.place pointer-in (take 8 (drop 5 ws)) i;
+    }
 
 module _ (m : Machine) (i : Instruction) (t : Pointer) where
   pub reads-view : (f : ℕ → ℕ → ℕ) →
@@ -124,7 +152,7 @@ module _ (m : Machine) (i : Instruction) (t : Pointer) where
       View.outcome (execute m (perform (length (m .memory)) loads-dbr i (m .registers) t))
       ≡ Step03.or-fault (Step03.base-refusal (View.machine m) (View.place t)) (View.place t)
       (Step03.on-with (Step03.with-dbr (field 0 24 (word-at m t)) (field 24 13 (word-at m t)) (View.regs (m .registers))) (m .memory))
-  unfolding registers-opened load store update transfer call return load-dbr perform execute View.outcome Step03.base-refusal dbr-fits
+  unfolding registers-opened load-dbr if-dbr-fits perform execute View.outcome Step03.base-refusal Step03.or-fault
   loads-dbr-view =
       let w = word-at m t in
       let k = Step03.pointer-refusal (View.machine m) (View.place t) in
@@ -133,8 +161,38 @@ module _ (m : Machine) (i : Instruction) (t : Pointer) where
       let x = Step03.on-with (Step03.with-dbr (field 0 24 w) (field 24 13 w) (View.regs (m .registers))) (m .memory) in
       or-fault-view (use-answer m t (read-questions t)) t _
       ∙ ap₂ (λ c y. Step03.or-fault c (View.place t) y) (read-answer m t)
-      (cond-rel (λ p y. View.outcome (execute m p) ≡ y) {b = dbr-fits size (dbr-in w)} refl (λ _. refl) (λ _. refl)
-      ∙ or-fault-34 (dbr-fits size (dbr-in w)) long (View.place t) x _
-      (and-is-not-or (ltb 4096 (field 24 13 w)) (ltb size (field 0 24 w + field 24 13 w)) (leb-is-not-ltb (field 24 13 w) 4096)
-      (leb-is-not-ltb (field 0 24 w + field 24 13 w) size)) refl)
+      (or-fail-view m (dbr-fits size (dbr-in w)) long 33 0 t _ x (dbr-fits-view size (dbr-in w)) refl)
       ∙ sym (or-fault-then k (cond long 34 0) (View.place t) x)
+
+  -- RCU: where its questions pass, the words read one by one are the frame (`words-read`)
+  taken-view : (r : Registers) →
+      View.outcome (execute m (take-up (length (m .memory)) t r))
+      ≡ Step03.or-fault (Step03.regs-refusal (length (m .memory)) (View.regs r)) (View.place t) (Step03.went (Step03.machine (View.regs r) (m .memory)))
+  unfolding machine take-up if-dbr-fits execute View.outcome Step03.machine Step03.or-fault Step03.regs-refusal
+  taken-view r =
+      let size = length (m .memory) in
+      let long = ltb 4096 (r .dbr .length) || ltb size (r .dbr .address + r .dbr .length) in
+      let rings = Machine03.rings-from (r .ipr .ring) (map View.place (r .prs)) in
+      let x = Step03.went (Step03.machine (View.regs r) (m .memory)) in
+      or-fail-view m (dbr-fits size (r .dbr)) long 33 (cond (not rings) 52 0) t _ x (dbr-fits-view size (r .dbr))
+      (or-fail-view m (rings-at-least (r .ipr .ring) (r .prs)) (not rings) 51 0 t _ x (rings-not-below (r .ipr .ring) (r .prs) ∙ not-not rings) refl)
+
+  pub restores-view :
+      View.outcome (execute m (perform (length (m .memory)) restores i (m .registers) t))
+      ≡ Step03.or-fault (Step03.frame-refusal (View.machine m) (View.place t)) (View.place t)
+      (Step03.went (Step03.machine (Step03.frame-regs (Step03.frame-at (View.machine m) (View.place t))) (m .memory)))
+  unfolding words-opened restore perform execute use-passes read-questions may-read Step03.frame-at Step03.frame-refusal
+  restores-view =
+      let last = last-of-frame t in
+      let n = length (m .memory) in
+      let d = descriptor-of m (t .segment) in
+      let ws = take 13 (drop (absolute-address m t) (m .memory)) in
+      or-fault-view (use-answer m t (part-questions 13 t)) t _
+      ∙ or-fault-same (View.place t) (frame-answer m t)
+      (λ e.
+      let passes = answer-passes m last (read-questions last) e in
+      let within = word-within-segment n (m .registers .dbr) last d (passes .0) in
+      ap View.outcome (words-read m 13 t (λ ws. take-up n t (registers-in ws)) (use-passes-segment n (m .registers .dbr) last d (passes .0)) (passes .1) (omega arith)) ∙ taken-view (registers-in ws))
+      ∙ ap₂ (λ k r. Step03.or-fault k (View.place t) (Step03.or-fault (Step03.regs-refusal n r) (View.place t) (Step03.went (Step03.machine r (m .memory)))))
+      (read-answer m last) (frame-view ws)
+      ∙ sym (or-fault-then (Step03.pointer-refusal (View.machine m) (View.place last)) _ (View.place t) _)

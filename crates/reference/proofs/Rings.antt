@@ -6,7 +6,7 @@ use Prim.Native.Nat.{ℕ, _≤_, _<_}
 use lib.Dec.{ltb}
 use lib.ListN.{length, getD, List·getD-eq-default}
 use borrow.Author.Tests.{ltb-true, ltb-false, lt-ltb}
-use Rattle.model.specs.Registers.{machine}
+use Rattle.model.specs.Registers.{no-delivery, machine}
 use Rattle.model.specs.Reach.{is-descriptor-word, observable, writable}
 use Rattle.model.specs.Run.{run, after, stretch}
 use Rattle.model.proofs.BranchLaws.{and-left, and-right}
@@ -23,13 +23,13 @@ use Rattle.reference.proofs.Stretches.{stretch-equal}
 use Rattle.reference.proofs.Reaches.{reach-equal}
 
 -- a stretch of 03, of any machine, as one of the model; and the reply of its run
-stretch-back : (n b : ℕ) (m : Step03.Machine) → stretch n b (View.model-machine m) ≡ Promise03.stretch n b m
+stretch-back : (n b : ℕ) (m : Step03.Machine) → stretch no-delivery n b (View.model-machine m) ≡ Promise03.stretch n b m
 stretch-back n b m = stretch-equal n b (View.model-machine m) ∙ ap (λ (k : Step03.Machine). Promise03.stretch n b k) (views-cover m)
 
 reply-back : (n b : ℕ) (m : Step03.Machine) →
-    View.reply (run (stretch n b (View.model-machine m)) (View.model-machine m) .reply) ≡ Run03.run (Promise03.stretch n b m) m .reply
+    View.reply (run no-delivery (stretch no-delivery n b (View.model-machine m)) (View.model-machine m) .reply) ≡ Run03.run (Promise03.stretch n b m) m .reply
 reply-back n b m =
-    ap (λ (x : Run03.Ran). x .reply) (run-back m (stretch n b (View.model-machine m))) ∙ ap (λ j. Run03.run j m .reply) (stretch-back n b m)
+    ap (λ (x : Run03.Ran). x .reply) (run-back m (stretch no-delivery n b (View.model-machine m))) ∙ ap (λ j. Run03.run j m .reply) (stretch-back n b m)
 
 -- the words that it judges, likewise
 reachable-back : (n : ℕ) (m : Step03.Machine) (x : ℕ) → observable n (View.model-machine m) x ≡ Promise03.reachable n (m .regs) (m .mem) x
@@ -77,11 +77,11 @@ module _ (n : ℕ) (r : Machine03.Regs) (m : List ℕ) where
       let both = sym (descriptor-words-back start x) ∙ o in
       writable-back n start x ∙ closed x (ltb-true x (length m) (and-left (ltb x (length m)) _ both)) (and-right (ltb x (length m)) _ both)
 
-  alike-03 : (b : ℕ) (k : List ℕ) → Alike n b (View.registers r) m k → Promise03.Alike n b r m k
+  alike-03 : (b : ℕ) (k : List ℕ) → Alike no-delivery n b (View.registers r) m k → Promise03.Alike n b r m k
   unfolding machine after
   alike-03 b k alike =
       let other : Step03.Machine = record { regs = r; mem = k } in
-      let within : (j : ℕ) → j ≤ Promise03.stretch n b start → j ≤ stretch n b (View.model-machine start) =
+      let within : (j : ℕ) → j ≤ Promise03.stretch n b start → j ≤ stretch no-delivery n b (View.model-machine start) =
       λ j. subst (λ s. j ≤ s) (sym (stretch-back n b start)) in
       record {
         same-long = sym (stretch-back n b start) ∙ alike .same-stretch ∙ stretch-back n b other;
@@ -102,4 +102,4 @@ pub rings-hold-03 : Promise03.Rings-hold
 unfolding Promise03.Rings-hold machine
 rings-hold-03 n b r m k one seven budget a prs in-ring words-m words-k same-length agree closed =
     alike-03 n r m b k
-    (rings-hold n b (View.registers r) m k one in-ring same-length (agree-model n r m k same-length agree) (closed-model n r m closed))
+    (rings-hold no-delivery n b (View.registers r) m k one in-ring same-length (agree-model n r m k same-length agree) (closed-model n r m closed))

@@ -6,7 +6,7 @@ use lib.Dec.{leb, eqb, eqb·suc-zero}
 use lib.ListN.{length, set}
 use Rattle.model.specs.Words.{on, Pointer, pointer-word, Instruction, instruction-in}
 use Rattle.model.specs.Registers.{Registers, Machine, pr}
-use Rattle.model.specs.Opcodes.{Access, bitwise, count-of-ones, sum, difference, decoded, LDA, STA, ADA, SBA, ANA, ORA, XRA, CNT, AOS, EAP, SPP, TRA, TZE, TMI, CALL, RETURN, LDBR}
+use Rattle.model.specs.Opcodes.{Access, bitwise, count-of-ones, sum, difference, decoded, LDA, STA, ADA, SBA, ANA, ORA, XRA, CNT, AOS, EAP, SPP, TRA, TZE, TMI, CALL, RETURN, LDBR, RCU}
 use Rattle.model.specs.Questions.{ask, may-execute, fetch-questions}
 use Rattle.model.specs.Program.{Program, fail, execute, word-at, absolute-address, descriptor-of}
 use Rattle.model.specs.Step.{first-address, chain, call, return, perform, obey, step-program, step}
@@ -18,7 +18,7 @@ use Rattle.reference.specs.View as View
 use Rattle.reference.specs.Equal.{Step-equal}
 use Rattle.reference.proofs.Uses.{words-opened, answer-equal, or-fault-view}
 use Rattle.reference.proofs.Address.{pr-view, first-address-view, landed, chain-view}
-use Rattle.reference.proofs.Performs.{registers-opened, with-pr-view, or-fault-then, reads-view, writes-view, updates-view, transfers-view, calls-view, returns-view, loads-dbr-view}
+use Rattle.reference.proofs.Performs.{registers-opened, with-pr-view, or-fault-then, reads-view, writes-view, updates-view, transfers-view, calls-view, returns-view, loads-dbr-view, restores-view}
 use Rattle.reference.proofs.OpcodeCases.{opcode-cases}
 
 -- A'S OPERATIONS
@@ -118,6 +118,7 @@ module _ (m : Machine) (w : ℕ) where
         return = operand-view 33 (RETURN .access) (λ t. returns-view m i t);
         ldbr = privileged-view (eqb (r .ipr .ring) 0) _ _ (operand-view 40 (LDBR .access) (λ t. loads-dbr-view m i t));
         hlt = privileged-view (eqb (r .ipr .ring) 0) _ _ refl;
+        rcu = privileged-view (eqb (r .ipr .ring) 0) _ _ (operand-view 42 (RCU .access) (λ t. restores-view m i t));
       }
 
   obeys : (o : ℕ) → Obeys o

@@ -1,12 +1,14 @@
 -- Questions on segments answer alike: 11 to 15, and those of each use. Assumes nothing.
 use mathlib.Core.Path.{_≡_, refl, _∙_, ap}
-use mathlib.Core.Bool.{_&&_, _||_, not, cond}
-use Prim.Native.Nat.{ℕ, zero, suc, _+_}
+use mathlib.Core.Bool.{Bool, true, false, _&&_, _||_, not, cond}
+use Prim.Native.Nat.{ℕ, zero, suc, _+_, _-_}
 use lib.Dec.{ltb, leb, eqb}
+use native.Mathlib.Omega.{arith}
 use lib.ListN.{length}
+use borrow.Author.Tests.{ltb-true, lt-ltb}
 use Rattle.model.specs.Words.{field, on, descriptor-in, Pointer}
 use Rattle.model.specs.Registers.{Machine}
-use Rattle.model.specs.Questions.{Question, segment-questions, use-questions, may-execute, may-read, may-write, read-questions, write-questions, return-questions, transfer-questions, new-ring, call-questions}
+use Rattle.model.specs.Questions.{ask, then-ask, Question, segment-questions, word-questions, use-questions, may-execute, may-read, may-write, read-questions, part-questions, write-questions, return-questions, transfer-questions, new-ring, call-questions}
 use Rattle.model.specs.Program.{Outcome, descriptor-of, absolute-address, word-at, use-answer, or-fault}
 use Rattle.reference.specs.Machine as Machine03
 use Rattle.reference.specs.Step as Step03
@@ -34,7 +36,7 @@ segment-answer m s =
 use-equal : (m : Machine) (t : Pointer) →
     use-questions (length (m .memory)) (m .registers .dbr) t (descriptor-of m (t .segment))
     ≡ Machine03.use-refusal (View.regs (m .registers)) (m .memory) (View.place t)
-unfolding words-opened use-questions Machine03.use-refusal
+unfolding words-opened word-questions use-questions Machine03.use-refusal
 use-equal m t =
     let d = descriptor-of m (t .segment) in
     rw (segment-answer m (t .segment), ask-is-passed (ltb (t .word) (d .length)) 15 0) (then-ask-is-cond _ _)
@@ -52,6 +54,31 @@ pub read-answer : (m : Machine) (t : Pointer) → use-answer m t (read-questions
 unfolding words-opened read-questions may-read Step03.pointer-refusal
 read-answer m t =
     let d = descriptor-of m (t .segment) in rw (answer-equal m t (read-questions t), ask-is-passed (d .read && leb (t .ring) (d .r2)) 22 0) refl
+
+-- of a part the model asks 15 of the first word and of the last, 03 of the last
+last-alone : (s w l q : ℕ) →
+    then-ask (then-ask s (ask (ltb w l) 15 0)) (then-ask (ask (ltb (w + 12) l) 15 0) q) ≡ then-ask (then-ask s (ask (ltb (w + 12) l) 15 0)) q
+unfolding then-ask ask
+last-alone (suc s) w l q = refl
+last-alone zero w l q = by-test (ltb (w + 12) l) refl
+  where
+    either : (b : Bool) → then-ask (ask b 15 0) 15 ≡ 15
+    either true = refl
+    either false = refl
+
+    by-test : (t : Bool) → ltb (w + 12) l ≡ t → then-ask (ask (ltb w l) 15 0) (then-ask (ask t 15 0) q) ≡ then-ask (ask t 15 0) q
+    by-test true e = rw (lt-ltb w l (let z = ltb-true (w + 12) l e in omega arith)) refl
+    by-test false e = either (ltb w l)
+
+abbrev pub last-of-frame : Pointer → Pointer
+last-of-frame t = record { ring = t .ring; segment = t .segment; word = t .word + 12 }
+
+pub frame-answer : (m : Machine) (t : Pointer) → use-answer m t (part-questions 13 t) ≡ use-answer m (last-of-frame t) (read-questions (last-of-frame t))
+unfolding use-answer use-questions word-questions part-questions read-questions may-read
+frame-answer m t =
+    let d = descriptor-of m (t .segment) in
+    let last : t .word + 13 - 1 ≡ t .word + 12 = omega arith in
+    rw last (last-alone (segment-questions (length (m .memory)) (m .registers .dbr) (t .segment) d) (t .word) (d .length) (read-questions t d))
 
 -- 23
 pub write-answer : (m : Machine) (t : Pointer) → use-answer m t (write-questions t) ≡ Step03.write-refusal (View.machine m) (View.place t)

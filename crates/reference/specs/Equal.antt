@@ -1,19 +1,19 @@
--- That the model equals document 03 on every input: each statement is a type, proved in proofs/. Assumes nothing: these are definitions.
+-- That the model without delivery (02, L4) equals document 03 on every input: each statement is a type, proved in proofs/. Assumes nothing: these are definitions.
 use mathlib.Core.Path.{_≡_}
 use mathlib.Core.Bool.{_&&_}
 use mathlib.Core.List.{List}
 use Prim.Native.Nat.{ℕ, _≤_}
 use lib.Dec.{ltb}
 use lib.ListN.{length}
-use Rattle.model.specs.Registers.{Machine}
+use Rattle.model.specs.Registers.{Delivery, no-delivery, Machine}
 use Rattle.model.specs.Questions.{start-questions}
 use Rattle.model.specs.Step.{step}
 use Rattle.model.specs.Run.{run, stretch}
 use Rattle.model.specs.Reach.{is-descriptor-word, observable, writable}
-use Rattle.model.specs.Image.{loaded, image, stored-image}
+use Rattle.model.specs.Image.{stored, loaded, image, stored-image}
 use Rattle.model.specs.Listing.{listing, image-text}
 use Rattle.model.specs.Convert.{records}
-use Rattle.model.specs.Converted.{One-an-address}
+use Rattle.model.specs.Converted.{One-an-address, with-todays-start}
 use Rattle.model.specs.Bench.{bench}
 use Rattle.model.specs.Lent.{lent-run}
 use Rattle.reference.specs.Machine as Machine03
@@ -33,7 +33,7 @@ Views-one-to-one = (m : Machine) → View.model-machine (View.machine m) ≡ m
 
 -- questions 1 to 4 answer alike
 abbrev pub Start-equal : Type 0
-Start-equal = (m : Machine) → start-questions m ≡ Machine03.start-refusal (View.regs (m .registers)) (m .memory)
+Start-equal = (m : Machine) → start-questions no-delivery m ≡ Machine03.start-refusal (View.regs (m .registers)) (m .memory)
 
 -- a step has the same fault, or leaves the same machine
 abbrev pub Step-equal : Type 0
@@ -45,11 +45,11 @@ Halt-equal = (m : Machine) → View.is-halt (step m) ≡ Step03.is-halt (View.ma
 
 -- a run replies alike and leaves the same machine
 abbrev pub Run-equal : Type 0
-Run-equal = (b : ℕ) (m : Machine) → View.ran (run b m) ≡ Run03.run b (View.machine m)
+Run-equal = (b : ℕ) (m : Machine) → View.ran (run no-delivery b m) ≡ Run03.run b (View.machine m)
 
 -- a stretch is as long
 abbrev pub Stretch-equal : Type 0
-Stretch-equal = (n b : ℕ) (m : Machine) → stretch n b m ≡ Promise03.stretch n b (View.machine m)
+Stretch-equal = (n b : ℕ) (m : Machine) → stretch no-delivery n b m ≡ Promise03.stretch n b (View.machine m)
 
 -- the same words are observable, writable and descriptor words; 03 counts words past the end of memory among the last
 abbrev pub Reach-equal : Type 0
@@ -63,22 +63,29 @@ Reach-equal =
 abbrev pub Image-equal : Type 0
 Image-equal = (bs : List ℕ) → View.image (stored-image bs) ≡ Run03.image bs
 
+-- and delivery is off in it
+abbrev pub Image-off : Type 0
+Image-off = (bs : List ℕ) (v : Delivery) (m : Machine) (b : ℕ) → stored-image bs ≡ loaded v m b → v ≡ no-delivery
+
 -- a run that 1 to 4 let start has the same text, once 03's lines have the model's counts of pointer words (02, L2); of a refused one 03 prints a fault line, where 01 says `refused NUMBER`
 abbrev pub Listing-equal : Type 0
-Listing-equal = (b : ℕ) (m : Machine) → start-questions m ≡ 0 → listing b m ≡ Run03.listing View.pointers b (View.machine m)
+Listing-equal = (b : ℕ) (m : Machine) → start-questions no-delivery m ≡ 0 → listing no-delivery b m ≡ Run03.listing View.pointers b (View.machine m)
 
--- an image that loads has the same text
+-- an image of 03 that loads with today's ST, five zero bytes longer, has the same text
 abbrev pub Text-equal : Type 0
-Text-equal = (bs : List ℕ) (m : Machine) (b : ℕ) → image bs ≡ loaded m b → image-text bs ≡ Entry03.listing-of View.pointers bs
+Text-equal =
+    (bs : List ℕ) (v : Delivery) (m : Machine) (b : ℕ) → image (with-todays-start bs) ≡ loaded v m b →
+    image-text (with-todays-start bs) ≡ Entry03.listing-of View.pointers bs
 
--- the bench's call answers and leaves what 03's contract says, where no word is written twice
+-- the bench's call with it answers and leaves what 03's contract says, where no word is written twice
 abbrev pub Bench-equal : Type 0
 Bench-equal =
-    (bs out : List ℕ) → One-an-address (records bs) →
-    Entry03.Bench-says (Entry03.bench-refusal bs (length out)) (Entry03.listing-of View.pointers bs) (bench bs out .answer) out (bench bs out .buffer)
+    (bs out : List ℕ) → One-an-address (records stored bs) → let x = bench (with-todays-start bs) out in
+    Entry03.Bench-says (Entry03.bench-refusal bs (length out)) (Entry03.listing-of View.pointers bs) (x .answer) out (x .buffer)
 
--- a run over lent words answers and leaves what 03's contract says; of a longer memory 01 asks 1 before the record's length, 03 after it
+-- a run over lent words, with delivery's three as 0, answers and leaves what 03's contract says, and the three stay; of a longer memory 01 asks 1 before the record's length, 03 after it
 abbrev pub Lent-equal : Type 0
 Lent-equal =
     (b : ℕ) (ws m : List ℕ) → length m ≤ 16777216 →
-    Entry03.Run-says b ws m (View.answer (lent-run b ws m .reply)) (lent-run b ws m .record-words) (lent-run b ws m .memory)
+    let x = lent-run b (View.lent ws) m in
+    (ws-now : List ℕ) × (x .record-words ≡ View.lent ws-now) × Entry03.Run-says b ws m (View.answer (x .reply)) ws-now (x .memory)

@@ -1,21 +1,22 @@
--- Document 03's single step: as it stands there. Assumes nothing: these are definitions.
+-- Document 03's single step: as it stands there, but for opcode 42 (02, L4). Assumes nothing: these are definitions.
 use mathlib.Core.Bool.{Bool, _&&_, _||_, not, cond}
-use mathlib.Core.List.{List, [], _∷_}
+use mathlib.Core.List.{List, [], _∷_, map}
 use Prim.Native.Nat.{ℕ, zero, suc, _+_, _*_, _-_, _/_, _%_, min}
 use lib.Dec.{ltb, leb, eqb}
-use lib.ListN.{length, set}
+use lib.ListN.{length, getD, set, take, drop}
 use Prim.Native.Nat.{max}
-use Rattle.reference.specs.Machine.{field, on, Place, Regs, pr, descriptor-of, use-refusal, absolute, word-at}
+use Rattle.reference.specs.Machine.{field, on, Place, Regs, pr, descriptor-of, use-refusal, absolute, word-at, rings-from}
 
 abbrev pub words : ℕ
 words = 18446744073709551616
 
+-- 02, L4: 42 is in the table, and privileged
 unfoldable pub known : (op : ℕ) → Bool
 known o =
-    (leb 1 o && leb o 10) || ((eqb o 16 || eqb o 17) || ((leb 24 o && leb o 26) || ((eqb o 32 || eqb o 33) || (eqb o 40 || eqb o 41))))
+    (leb 1 o && leb o 10) || ((eqb o 16 || eqb o 17) || ((leb 24 o && leb o 26) || ((eqb o 32 || eqb o 33) || (leb 40 o && leb o 42))))
 
 unfoldable pub privileged : (op : ℕ) → Bool
-privileged o = eqb o 40 || eqb o 41
+privileged o = eqb o 40 || eqb o 41 || eqb o 42
 
 unfoldable pub has-operand : (op : ℕ) → Bool
 has-operand o = not (eqb o 10 || eqb o 41)
@@ -164,6 +165,29 @@ base-refusal m t =
     let w = word-at (m .regs) (m .mem) t in
     cond (not (eqb k 0)) k (cond (ltb 4096 (field 24 13 w) || ltb (length (m .mem)) (field 0 24 w + field 24 13 w)) 34 0)
 
+-- 02, L4, opcode 42: the registers in a frame of thirteen words, whose first two and every I are ignored
+unfoldable pub frame-at : Machine → Place → List ℕ
+frame-at m t = take 13 (drop (absolute (m .regs) (m .mem) t) (m .mem))
+
+unfoldable pub place-in-word : (word : ℕ) → Place
+place-in-word w = record { ring = field 28 3 w; seg = field 16 12 w; at = field 0 16 w }
+
+unfoldable pub frame-regs : (frame : List ℕ) → Regs
+frame-regs ws =
+    let w = getD ws 3 0 in
+    record { a = getD ws 2 0; base = field 0 24 w; bound = field 24 13 w; ipr = place-in-word (getD ws 4 0); prs = map place-in-word (take 8 (drop 5 ws)) }
+
+-- 34, and 52: is no PR in a lower ring than IPR?
+unfoldable pub regs-refusal : (size : ℕ) → Regs → ℕ
+regs-refusal n r =
+    cond (ltb 4096 (r .bound) || ltb n (r .base + r .bound)) 34 (cond (not (rings-from (r .ipr .ring) (r .prs))) 52 0)
+
+-- 11 to 15 and 22 of the frame's last word, and so of each, come first
+unfoldable pub frame-refusal : Machine → Place → ℕ
+frame-refusal m t =
+    let k = pointer-refusal m (record { ring = t .ring; seg = t .seg; at = t .at + 12 }) in
+    cond (not (eqb k 0)) k (regs-refusal (length (m .mem)) (frame-regs (frame-at m t)))
+
 unfoldable pub or-fault : (number : ℕ) → Place → Stepped → Stepped
 or-fault zero t s = s
 or-fault (suc n) t s = fault (suc n) t
@@ -202,7 +226,8 @@ performed o i m t =
     (cond (eqb o 32) (or-fault (call-refusal m t) t (went (machine (called (new-ring m t) t r) (m .mem))))
     (cond (eqb o 33) (or-fault (return-refusal m t) t (went (machine (returned t r) (m .mem))))
     (cond (eqb o 40) (or-fault (base-refusal m t) t (on-with (with-dbr (field 0 24 v) (field 24 13 v) r) (m .mem)))
-    (cond (jumps o (r .a)) (or-fault (transfer-refusal m t) t (went (machine (with-ipr t r) (m .mem)))) (on-with r (m .mem))))))))))
+    (cond (eqb o 42) (or-fault (frame-refusal m t) t (went (machine (frame-regs (frame-at m t)) (m .mem))))
+    (cond (jumps o (r .a)) (or-fault (transfer-refusal m t) t (went (machine (with-ipr t r) (m .mem)))) (on-with r (m .mem)))))))))))
 
 unfoldable pub at-address : (op instruction : ℕ) → Machine → Address → Stepped
 at-address o i m (bad n t) = fault n t

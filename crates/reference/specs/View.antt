@@ -1,6 +1,6 @@
 -- The model's values as document 03's, and 03's machines as the model's. Assumes nothing: these are definitions.
 use mathlib.Core.Bool.{Bool, true, false}
-use mathlib.Core.List.{map}
+use mathlib.Core.List.{List, [], _∷_, _++_, map}
 use Prim.Native.Nat.{ℕ}
 use Rattle.model.specs.Words as Words
 use Rattle.model.specs.Registers as Registers
@@ -59,9 +59,10 @@ reply p = numbers (reply-numbers p)
 abbrev pub ran : Run.Ran → Run03.Ran
 ran x = record { reply = reply (x .reply); machine = machine (x .machine) }
 
+-- of a stored image: 03's has no delivery, and none is loaded (Image-off)
 unfoldable pub image : Image.Image → Run03.Image
 image (Image.refused-image n) = Run03.bad-image n
-image (Image.loaded m b) =
+image (Image.loaded v m b) =
     record { refusal = 0; has-me = true; has-st = true; regs = regs (m .registers); mem = m .memory; budget = b }
 
 abbrev pub answer : Run.Reply → Entry03.Answer
@@ -78,6 +79,10 @@ registers r = record { a = r .a; dbr = record { address = r .base; length = r .b
 
 abbrev pub model-machine : Step03.Machine → Registers.Machine
 model-machine m = record { registers = registers (m .regs); memory = m .mem }
+
+-- 03's record of 30 words, with the three of a delivery that is off
+abbrev pub lent : List ℕ → List ℕ
+lent ws = ws ++ (0 ∷ 0 ∷ 0 ∷ [])
 
 -- what 03's machine doesn't count: how many pointer words a step reads
 abbrev pub pointers : Step03.Machine → ℕ

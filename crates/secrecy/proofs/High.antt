@@ -8,7 +8,7 @@ use lib.Dec.{eqb}
 use borrow.Author.Tests.{ne-eqb}
 use Rattle.model.specs.Words.{Pointer, Instruction, instruction-in}
 use Rattle.model.specs.Registers.{Registers, with-a, with-ipr, with-prs, with-pr, moved-by, with-ring-at-least, advanced}
-use Rattle.model.specs.Opcodes.{Access, sets, reads, writes, updates, transfers, calls, returns, loads-dbr, ends-run, Opcode, LDA, STA, ADA, SBA, ANA, ORA, XRA, CNT, AOS, LDI, EAP, SPP, TRA, TZE, TMI, CALL, RETURN, LDBR, HLT}
+use Rattle.model.specs.Opcodes.{Access, sets, reads, writes, updates, transfers, calls, returns, loads-dbr, ends-run, restores, Opcode, LDA, STA, ADA, SBA, ANA, ORA, XRA, CNT, AOS, LDI, EAP, SPP, TRA, TZE, TMI, CALL, RETURN, LDBR, HLT, RCU}
 use Rattle.model.specs.Questions.{fetch-questions, read-questions, write-questions}
 use Rattle.model.specs.Program.{Program}
 use Rattle.model.specs.Step.{first-address, next-address, chain, with-operand, called, returned, load, store, update, transfer, call, return, load-dbr, perform, obey, step-program}
@@ -17,7 +17,7 @@ use Rattle.model.proofs.QuestionLaws.{fetch-bracket, read-bracket, write-bracke
 use Rattle.model.proofs.TableLaws.{Each, If-there, decoded-has}
 use Rattle.secrecy.proofs.Secret.{May-read, May-write, High}
 
--- what an unprivileged opcode may do: any access but DBR's load and the run's end, and DBR is kept
+-- what an unprivileged opcode may do: any access but DBR's load, the run's end and a frame's restoring, and DBR is kept
 unfoldable pub Keeps-dbr : Access → Type 0
 Keeps-dbr (sets f) = (i : Instruction) (t : Pointer) (r : Registers) → r .dbr ≡ f i t r .dbr
 Keeps-dbr (reads f) = Unit {0}
@@ -28,13 +28,14 @@ Keeps-dbr calls = Unit {0}
 Keeps-dbr returns = Unit {0}
 Keeps-dbr loads-dbr = ⊥
 Keeps-dbr ends-run = ⊥
+Keeps-dbr restores = ⊥
 
 unfoldable pub Unprivileged-keeps-dbr : Opcode → Type 0
 Unprivileged-keeps-dbr o = o .privileged ≡ false → Keeps-dbr (o .access)
 
--- LDBR and HLT are privileged
+-- LDBR, HLT and RCU are privileged
 pub unprivileged-keeps-dbr : Each Unprivileged-keeps-dbr
-unfolding Unprivileged-keeps-dbr Keeps-dbr LDA STA ADA SBA ANA ORA XRA CNT AOS LDI EAP SPP TRA TZE TMI CALL RETURN LDBR HLT with-a with-pr with-prs
+unfolding Unprivileged-keeps-dbr Keeps-dbr LDA STA ADA SBA ANA ORA XRA CNT AOS LDI EAP SPP TRA TZE TMI CALL RETURN LDBR HLT RCU with-a with-pr with-prs
 unprivileged-keeps-dbr =
     record {
       lda = λ u. tt;
@@ -56,6 +57,7 @@ unprivileged-keeps-dbr =
       return = λ u. tt;
       ldbr = λ u. true≢false u;
       hlt = λ u. true≢false u;
+      rcu = λ u. true≢false u;
     }
 
 -- THE EFFECTIVE RING is never below IPR's
@@ -96,6 +98,7 @@ module _ (n : ℕ) where
     high-perform size returns u i t h = λ d e. refl
     high-perform size loads-dbr u i t h = absurd u
     high-perform size ends-run u i t h = absurd u
+    high-perform size restores u i t h = absurd u
 
     pub high-with-operand : (o : Opcode) (i : Instruction) (f : Pointer → Program) → n ≤ r .ipr .ring →
         ((t : Pointer) → n ≤ t .ring → High n (r .dbr) (f t)) → High n (r .dbr) (with-operand o i r f)
@@ -103,7 +106,7 @@ module _ (n : ℕ) where
     high-with-operand o i f h g =
         cond-holds (High n (r .dbr)) (o .operand) (λ _. high-chain f g 64 _ _ (first-address-ring n i r h)) (λ _. g (r .ipr) h)
 
-    -- 33 keeps LDBR and HLT to ring 0
+    -- 33 keeps LDBR, HLT and RCU to ring 0
     pub high-obey : (size : ℕ) (i : Instruction) (o : Option Opcode) → If-there Unprivileged-keeps-dbr o → 1 ≤ n → n ≤ r .ipr .ring →
         High n (r .dbr) (obey size r i o)
     unfolding obey High Unprivileged-keeps-dbr

@@ -53,8 +53,8 @@ module _ {S F : Type 0} (step : S → Next S F) where
   notes-from note zero x = []
   notes-from note (suc n) x = notes-on note x (step x) (λ y. notes-from note n y)
 
-  module _ (inside : S → Bool) where
-    -- the stretch: the steps up to and with the first that ends outside, or the budget where none does
+  module _ (inside leaves : S → Bool) where
+    -- the stretch: the steps up to and with the first that ends outside, or before the first that leaves; the budget where there is none
     unfoldable pub stretch-on : (left : ℕ) → Next S F → (S → ℕ) → ℕ
     stretch-on b (stops f) g = suc b
     stretch-on b (ends y) g = cond (inside y) (suc b) 1
@@ -62,14 +62,23 @@ module _ {S F : Type 0} (step : S → Next S F) where
 
     unfoldable pub stretch : (budget : ℕ) → S → ℕ
     stretch zero x = 0
-    stretch (suc b) x = stretch-on b (step x) (λ y. stretch b y)
+    stretch (suc b) x = cond (leaves x) 0 (stretch-on b (step x) (λ y. stretch b y))
+
+    -- where there is a step in the stretch, it doesn't leave
+    stays : (j b : ℕ) (x : S) → suc j ≤ stretch (suc b) x → (leaves x ≡ false) × (suc j ≤ stretch-on b (step x) (λ y. stretch b y))
+    unfolding stretch
+    stays j b x = by-test (leaves x)
+      where
+        by-test : (t : Bool) → suc j ≤ cond t 0 (stretch-on b (step x) (λ y. stretch b y)) → (t ≡ false) × (suc j ≤ stretch-on b (step x) (λ y. stretch b y))
+        by-test true h = absurd (omega arith)
+        by-test false h = (refl, h)
 
     -- before each step of the stretch the state is inside
     pub inside-before : (j b c : ℕ) (x : S) → inside x ≡ true → j < stretch b x → inside (run-from j c x .state) ≡ true
-    unfolding run-from run-on stretch stretch-on
+    unfolding run-from run-on stretch-on
     inside-before zero b c x e h = e
-    inside-before (suc j) zero c x e h = absurd (omega arith)
-    inside-before (suc j) (suc b) c x e h = by-next (step x) h (λ y q l. inside-before j b (suc c) y q l)
+    inside-before (suc j) zero c x e h = absurd (unfold stretch in omega arith)
+    inside-before (suc j) (suc b) c x e h = by-next (step x) (stays (suc j) b x h .1) (λ y q l. inside-before j b (suc c) y q l)
       where
         -- a step that ends outside is the stretch's last
         last-outside : (y : S) (n : ℕ) → suc j < cond (inside y) (suc n) 1 → (inside y ≡ true) × (j < n)
@@ -86,8 +95,8 @@ module _ {S F : Type 0} (step : S → Next S F) where
         by-next (ends y) i ih = last-outside y b i .0
         by-next (goes-on y) i ih = let z = last-outside y (stretch b y) i in ih y (z .0) (z .1)
 
-    module _ (A : S → S → Type 0) (law : (x y : S) → A x y → inside x ≡ true → Alike-next A (step x) (step y))
-        (same-inside : (x y : S) → A x y → inside x ≡ inside y) where
+    module _ (A : S → S → Type 0) (law : (x y : S) → A x y → inside x ≡ true → leaves x ≡ false → Alike-next A (step x) (step y))
+        (same-inside : (x y : S) → A x y → inside x ≡ inside y) (same-leaves : (x y : S) → A x y → inside x ≡ true → leaves x ≡ leaves y) where
       same-stretch-on : (b : ℕ) {p q : Next S F} → Alike-next A p q →
           ((x y : S) → A x y → inside x ≡ true → stretch b x ≡ stretch b y) →
           stretch-on b p (λ y. stretch b y) ≡ stretch-on b q (λ y. stretch b y)
@@ -99,7 +108,8 @@ module _ {S F : Type 0} (step : S → Next S F) where
       pub same-stretch : (b : ℕ) (x y : S) → A x y → inside x ≡ true → stretch b x ≡ stretch b y
       unfolding stretch
       same-stretch zero x y a e = refl
-      same-stretch (suc b) x y a e = same-stretch-on b (law x y a e) (λ u v w i. same-stretch b u v w i)
+      same-stretch (suc b) x y a e =
+          cond-rel _≡_ (same-leaves x y a e) (λ _. refl) (λ q. same-stretch-on b (law x y a e q) (λ u v w i. same-stretch b u v w i))
 
       -- a run of no steps
       alike-at-once : (j c : ℕ) (x y : S) → A x y → j ≤ 0 → Alike-ran A (run-from j c x) (run-from j c y)
@@ -121,10 +131,11 @@ module _ {S F : Type 0} (step : S → Next S F) where
 
       -- after each step of the stretch, its last one too
       pub alike-within : (j b c : ℕ) (x y : S) → A x y → inside x ≡ true → j ≤ stretch b x → Alike-ran A (run-from j c x) (run-from j c y)
-      unfolding run-from stretch
+      unfolding run-from
       alike-within zero b c x y a e h = record { same-end = refl; same-count = refl; alike-state = a }
-      alike-within (suc j) zero c x y a e h = absurd (omega arith)
-      alike-within (suc j) (suc b) c x y a e h = alike-run-on j b c x y a (law x y a e) h (λ u v w i g. alike-within j b (suc c) u v w i g)
+      alike-within (suc j) zero c x y a e h = absurd (unfold stretch in omega arith)
+      alike-within (suc j) (suc b) c x y a e h =
+          let s = stays j b x h in alike-run-on j b c x y a (law x y a e (s .0)) (s .1) (λ u v w i g. alike-within j b (suc c) u v w i g)
 
       -- and one list of notes, where a step of alike states is noted alike
       module _ {N : Type 0} (note : (before after : S) → N)
@@ -146,7 +157,8 @@ module _ {S F : Type 0} (step : S → Next S F) where
             by-test false q l = no-notes j (omega arith)
 
         pub same-notes : (j b : ℕ) (x y : S) → A x y → inside x ≡ true → j ≤ stretch b x → notes-from note j x ≡ notes-from note j y
-        unfolding notes-from stretch
+        unfolding notes-from
         same-notes zero b x y a e h = refl
-        same-notes (suc j) zero x y a e h = absurd (omega arith)
-        same-notes (suc j) (suc b) x y a e h = same-notes-on j b x y a e (law x y a e) h (λ u v w i g. same-notes j b u v w i g)
+        same-notes (suc j) zero x y a e h = absurd (unfold stretch in omega arith)
+        same-notes (suc j) (suc b) x y a e h =
+            let s = stays j b x h in same-notes-on j b x y a e (law x y a e (s .0)) (s .1) (λ u v w i g. same-notes j b u v w i g)

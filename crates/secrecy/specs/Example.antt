@@ -2,6 +2,7 @@
 use mathlib.Core.List.{List}
 use Prim.Native.Nat.{ℕ}
 use lib.ListN.{set}
+use Rattle.model.specs.Registers.{Delivery}
 use Rattle.model.specs.Cases.{case-12-registers, case-12}
 use Rattle.secrecy.specs.Statement.{Alike}
 
@@ -9,6 +10,6 @@ use Rattle.secrecy.specs.Statement.{Alike}
 unfoldable pub memory-with : (quantity : ℕ) → List ℕ
 memory-with q = set (case-12 .memory) 32 q
 
--- whatever the quantity and the budget, the laboratory's stretch is the same
+-- whatever the quantity, the budget and the delivery, the laboratory's stretch is the same
 abbrev pub Formula-stays-secret : Type 0
-Formula-stays-secret = (b p q : ℕ) → Alike 4 b case-12-registers (memory-with p) (memory-with q)
+Formula-stays-secret = (v : Delivery) (b p q : ℕ) → Alike v 4 b case-12-registers (memory-with p) (memory-with q)

@@ -7,7 +7,7 @@ use lib.ListN.{length}
 use borrow.Author.Tests.{le-ltb, lt-ltb, le-leb, lt-leb, not-true, not-false}
 use Rattle.model.specs.Words.{descriptor-in, Pointer}
 use Rattle.model.specs.Registers.{Dbr}
-use Rattle.model.specs.Questions.{ask, then-ask, segment-questions, use-questions}
+use Rattle.model.specs.Questions.{ask, then-ask, segment-questions, word-questions, use-questions}
 use Rattle.model.proofs.QuestionLaws.{segment-within-memory}
 use Rattle.segments.specs.Translation.{descriptor-word, descriptor-at, descriptor-answer, use-at, Passes}
 
@@ -68,11 +68,11 @@ module _ (b : Dbr) (m : List ℕ) (t : Pointer) where
 
     module _ (z : n ≡ 0) (l : ℕ) (el : l ≡ descriptor-in w .length) where
       pub law-15 : l ≤ t .word → use-at b m t ≡ 15
-      unfolding use-at use-questions ask then-ask
+      unfolding use-at use-questions word-questions ask then-ask
       law-15 x = rw (answer-here, z, ← f, ← el, le-ltb _ _ x)
 
       pub law-passes : t .word < l → Passes b m t w
-      unfolding use-at use-questions ask then-ask
+      unfolding use-at use-questions word-questions ask then-ask
       law-passes x =
           record {
             passes = rw (answer-here, z, ← f, ← el, lt-ltb _ _ x);

@@ -6,13 +6,13 @@ use Prim.Native.Nat.{ℕ, _*_, _≤_}
 use native.Mathlib.Omega.{arith}
 use lib.ListN.{length, take}
 use lib.Seq.{length-take-le}
-use Rattle.model.specs.Registers.{Machine}
+use Rattle.model.specs.Registers.{Delivery, Machine}
 use Rattle.model.specs.Questions.{start-questions}
 use Rattle.listing.specs.declared.Listed.{Listed}
 use Rattle.listing.specs.Lines.{Lines-written}
 
-module _ (m : Machine) (c s b : ℕ) (t : List ℕ) (x : Listed) (k : Machine) (u : List ℕ) (w : Lines-written m c s b t x k u) where
-  pub goes-on-passing : start-questions k ≡ 0
+module _ {dv : Delivery} (m : Machine) (c s b : ℕ) (t : List ℕ) (x : Listed) (k : Machine) (u : List ℕ) (w : Lines-written dv m c s b t x k u) where
+  pub goes-on-passing : start-questions dv k ≡ 0
   goes-on-passing = w .passes
 
   pub goes-on-within : x .count ≤ b

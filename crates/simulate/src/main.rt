@@ -2,7 +2,7 @@
 ghost use mathlib.Core.Path.{_≡_};
 ghost use lib.ListN.{replicate};
 ghost use Rattle.model.specs.Questions.{start-questions};
-ghost use Rattle.state.specs.View.{as-machine};
+ghost use Rattle.state.specs.View.{as-machine, as-delivery};
 ghost use Rattle.simulate.specs.Read.{Ready-within};
 use chunks::Line;
 use host::record::Registers;
@@ -11,6 +11,7 @@ use image::load::Loaded;
 use libc::STDOUT_FILENO;
 use listing::Listed;
 use state::Core;
+use state::Delivery;
 
 // Reads and loads until an image is whole or refused; `More` means that the input can't be read.
 fn read_image(store: &mut [u64]) -> Loaded
@@ -50,8 +51,8 @@ fn read_image(store: &mut [u64]) -> Loaded
 }
 
 // Prints a run's listing as its steps complete, and stops where nobody reads it any more.
-fn print_listing(core: Core, start: [u16; 24], memory: &mut [u64], budget: u32)
-    requires { ⌜ start-questions (as-machine core start (now memory)) ≡ 0 ⌝ }
+fn print_listing(delivery: Delivery, core: Core, start: [u16; 24], memory: &mut [u64], budget: u32)
+    requires { ⌜ start-questions (as-delivery delivery) (as-machine core start (now memory)) ≡ 0 ⌝ }
 {
     let mut text = io::large_buffer();
     let mut prs = start;
@@ -67,6 +68,7 @@ fn print_listing(core: Core, start: [u16; 24], memory: &mut [u64], budget: u32)
     let mut turns = u64::MAX;
     while turns > 0 {
         x = listing::list(
+            delivery,
             x.line.core,
             &mut prs,
             memory,
@@ -94,7 +96,7 @@ fn run_image(registers: Registers, memory: &mut [u64], budget: u32) {
         return;
     }
     let prs = x.prs;
-    print_listing(x.core, prs, memory, budget);
+    print_listing(registers.delivery, x.core, prs, memory, budget);
 }
 
 fn main() {

@@ -10,6 +10,7 @@ use Rattle.words.specs.View.{as-pointer}
 use Rattle.words.specs.declared.descriptor.Descriptor.{Descriptor}
 use Rattle.words.specs.declared.pointer.Pointer.{Pointer}
 use Rattle.state.specs.declared.Core.{Core}
+use Rattle.state.specs.declared.Delivery.{Delivery}
 use Rattle.state.specs.declared.End.{End}
 use Rattle.state.specs.declared.End.the-variants.{Completed, Halted, Faulted}
 use Rattle.state.specs.declared.After.{After}
@@ -38,6 +39,9 @@ as-registers c prs = registers-with c (as-pointers prs)
 
 abbrev pub as-machine : Core → (prs memory : List ℕ) → Registers.Machine
 as-machine c prs m = machine-with c (as-pointers prs) m
+
+abbrev pub as-delivery : Delivery → Registers.Delivery
+as-delivery v = record { switch = v .switch; save = v .save; handler = v .handler }
 
 -- registers after a change, whatever the PRs are
 pub record Becomes (c : Core) (f : Registers.Registers → Registers.Registers) (x : Core) : Type 0 where

@@ -19,6 +19,14 @@ pub struct Core {
     pub ipr: Pointer,
 }
 
+// The switch, the save segment and the handler segment; no step changes them.
+#[repr(C)]
+pub struct Delivery {
+    pub switch: u16,
+    pub save: u16,
+    pub handler: u16,
+}
+
 // How a step ends.
 pub enum End {
     Completed,

@@ -3,13 +3,13 @@ use mathlib.Core.Path.{_≡_}
 use Prim.Native.Nat.{_-_, _≤_}
 use lib.ListN.{length}
 use borrow.Author.Needs.{needs}
-use Rattle.buffers.specs.Move.{moved-down}
+use Rattle.buffers.specs.Move.{bytes-moved}
 use Rattle.buffers.proofs.MoveLaws.{moves}
 use Rattle.buffers.proofs.move_down.Statement.{statement}
 use Rattle.buffers.proofs.move_down.Tie as tie
 
 abbrev Inv-loop : tie.InvT-loop
-Inv-loop buffer₀ from to size i₀ buffer i = (i ≤ size) × (length buffer ≡ length buffer₀) × (buffer ≡ moved-down from to i buffer₀)
+Inv-loop buffer₀ from to size i₀ buffer i = (i ≤ size) × (length buffer ≡ length buffer₀) × (buffer ≡ bytes-moved from to i buffer₀)
 
 abbrev μ-loop : tie.MeasureT-loop
 μ-loop buffer₀ from to size i₀ buffer i = size - i

@@ -20,7 +20,7 @@ steps-of-requires : tie.Need-steps-of-requires
 steps-of-requires c κs = search needs
 
 put-steps-requires : tie.Need-put-steps-requires
-put-steps-requires c κs = (steps-have-room _ _ _ _ _ _ _ _ _ (c .before .before .before .before .before .before .before .before .run .ensures) (c .before .before .before .before .before .before .before .before .before .before .before .before .before .before .pre .0) _ (c .before .before .before .before .reply-of .ensures) _ (c .steps-of .ensures) _ _ (c .before .before .before .before .before .before .before .before .before .before .before .before .before .before .pre .1), steps-traced _ _ _ _ _ _ _ _ _ (c .before .before .before .before .before .before .before .before .run .ensures) (c .before .before .before .before .before .before .before .before .before .before .before .before .before .before .pre .0) _ (c .before .before .before .before .reply-of .ensures) _ (c .steps-of .ensures) (search needs), steps-fit _ _ _ _ _ _ _ _ _ (c .before .before .before .before .before .before .before .before .run .ensures) (c .before .before .before .before .before .before .before .before .before .before .before .before .before .before .pre .0) _ (c .before .before .before .before .reply-of .ensures) _ (c .steps-of .ensures) _ (c .before .before .before .before .before .before .before .before .before .before .before .before .before .before .pre .3), steps-few _ _ _ _ _ _ _ _ _ (c .before .before .before .before .before .before .before .before .run .ensures) (c .before .before .before .before .before .before .before .before .before .before .before .before .before .before .pre .0) _ (c .before .before .before .before .reply-of .ensures) _ (c .steps-of .ensures) (search needs))
+put-steps-requires c κs = (steps-have-room _ _ _ _ _ _ _ _ _ _ (c .before .before .before .before .before .before .before .before .run .ensures) (c .before .before .before .before .before .before .before .before .before .before .before .before .before .before .pre .0) _ (c .before .before .before .before .reply-of .ensures) _ (c .steps-of .ensures) _ _ (c .before .before .before .before .before .before .before .before .before .before .before .before .before .before .pre .1), steps-traced _ _ _ _ _ _ _ _ _ _ (c .before .before .before .before .before .before .before .before .run .ensures) (c .before .before .before .before .before .before .before .before .before .before .before .before .before .before .pre .0) _ (c .before .before .before .before .reply-of .ensures) _ (c .steps-of .ensures) (search needs), steps-fit _ _ _ _ _ _ _ _ _ _ (c .before .before .before .before .before .before .before .before .run .ensures) (c .before .before .before .before .before .before .before .before .before .before .before .before .before .before .pre .0) _ (c .before .before .before .before .reply-of .ensures) _ (c .steps-of .ensures) _ (c .before .before .before .before .before .before .before .before .before .before .before .before .before .before .pre .3), steps-few _ _ _ _ _ _ _ _ _ _ (c .before .before .before .before .before .before .before .before .run .ensures) (c .before .before .before .before .before .before .before .before .before .before .before .before .before .before .pre .0) _ (c .before .before .before .before .reply-of .ensures) _ (c .steps-of .ensures) (search needs))
 
 same-length : tie.Need-same-length
 same-length c = search needs
@@ -29,7 +29,7 @@ same-length-2 : tie.Need-same-length-2
 same-length-2 c = search needs
 
 returns : tie.Need-returns
-returns c = chunk-written _ _ _ _ _ _ _ _ _ (c .before .before .before .before .before .before .before .before .before .before .before .run .ensures) (c .before .before .before .before .before .before .before .before .before .before .before .before .before .before .before .before .before .pre .0) _ (c .before .before .before .before .before .before .before .reply-of .ensures) _ (c .before .before .before .steps-of .ensures) (search needs) _ _ _ _ _ (c .before .before .put-steps .ensures)
+returns c = chunk-written _ _ _ _ _ _ _ _ _ _ (c .before .before .before .before .before .before .before .before .before .before .before .run .ensures) (c .before .before .before .before .before .before .before .before .before .before .before .before .before .before .before .before .before .pre .0) _ (c .before .before .before .before .before .before .before .reply-of .ensures) _ (c .before .before .before .steps-of .ensures) (search needs) _ _ _ _ _ (c .before .before .put-steps .ensures)
 
 pub put-chunk-spec : {M : Type 1} → statement M
 put-chunk-spec =

@@ -40,8 +40,8 @@ same-length-2 c = search needs
 returns : tie.Need-returns
 returns c = search (needs, pieces)
 
-compact-requires : tie.Need-compact-requires
-compact-requires c κs = search needs
+renew-requires : tie.Need-renew-requires
+renew-requires c κs = search needs
 
 same-length-3 : tie.Need-same-length-3
 same-length-3 c = search needs
@@ -86,7 +86,7 @@ convert-piece-spec =
     same-length
     same-length-2
     returns
-    compact-requires
+    renew-requires
     same-length-3
     same-length-4
     returns-2

@@ -4,8 +4,8 @@ use Rattle.convert.proofs.TurnLaws.{outcome-fits, turns}
 use Rattle.convert.proofs.convert_once.Statement.{statement}
 use Rattle.convert.proofs.convert_once.Tie as tie
 
-read-piece-requires : tie.Need-read-piece-requires
-read-piece-requires c κs = search (needs, turns)
+read-more-requires : tie.Need-read-more-requires
+read-more-requires c κs = search (needs, turns)
 
 same-length : tie.Need-same-length
 same-length c = search (needs, turns)
@@ -17,7 +17,7 @@ convert-piece-requires : tie.Need-convert-piece-requires
 convert-piece-requires c κs = search (needs, turns)
 
 next-turn-requires : tie.Need-next-turn-requires
-next-turn-requires c κs = outcome-fits _ _ _ _ _ _ _ _ _ (c .before .before .before .before .before .convert-piece .ensures) (c .before .before .before .before .before .before .before .before .before .before .before .read-piece .ensures .1)
+next-turn-requires c κs = outcome-fits _ _ _ _ _ _ _ _ _ (c .before .before .before .before .before .convert-piece .ensures) (c .before .before .before .before .before .before .before .before .before .before .before .read-more .ensures .1)
 
 same-length-2 : tie.Need-same-length-2
 same-length-2 c = search (needs, turns)
@@ -32,7 +32,7 @@ pub convert-once-spec : {M : Type 1} → statement M
 convert-once-spec =
     tie.close
     (tie.spec
-    read-piece-requires
+    read-more-requires
     same-length
     returns
     convert-piece-requires

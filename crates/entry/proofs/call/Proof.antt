@@ -43,12 +43,15 @@ use denote.Triple.Clauses.{atExit, ensured, lasts, Lasts}
 use denote.Triple.Table.{entered, cited}
 use denote.Triple.Walked.{says}
 use Rattle.entry.specs.Call.{together, Call-says}
+use Rattle.state.specs.declared.Delivery.{Delivery}
 use Rattle.host.specs.declared.record.Registers.{Registers}
 use Rattle.entry.specs.declared.Answer.{Answer}
 use Rattle.entry.specs.declared.Answered.{Answered}
 use Rattle.entry.proofs.InPlace.{Rest, lends-part, comes-part}
 use Rattle.host.proofs.record.Registers as T
 use Rattle.host.proofs.record.Registers.Laws as T′
+use Rattle.state.proofs.Delivery as Y
+use Rattle.state.proofs.Delivery.Laws as Y′
 use Rattle.host.proofs.record.DescriptorBase as D
 use Rattle.host.proofs.record.DescriptorBase.Laws as D′
 use Rattle.host.proofs.record.Pointer as P
@@ -95,13 +98,13 @@ array-tells : (l : List ℕ) (vs : List Val) → Prs l vs → vs ≡ array-value
 array-tells l vs k = T′.the-laws .1 .1 .1 .0 .tells (map (λ v. v) l) vs (subst (λ (m : List ℕ). Prs m vs) (sym (map-id l)) k)
 
 -- the record that the callee leaves, and what closing the borrow at it asks
-abbrev left : Answered → List ℕ → Registers
-left r l = together (r .a) (r .dbr) (r .ipr) l
+abbrev left : Delivery → Answered → List ℕ → Registers
+left v r l = together (r .a) (r .dbr) (r .ipr) v l
 
-related : (r : Answered) (l : List ℕ) (w : Val) → Is S.the-row r (w ∷ []) → Prs l (array-value l ∷ []) → Is T.the-row (left r l) (record-value (left r l) ∷ [])
-related r l w is k =
+related : (v : Delivery) (r : Answered) (l : List ℕ) (w : Val) → Is Y.the-row v (LL.val Y.the-type Y′.the-laws v ∷ []) → Is S.the-row r (w ∷ []) → Prs l (array-value l ∷ []) → Is T.the-row (left v r l) (record-value (left v r l) ∷ [])
+related v r l w d is k =
     let new = LL.owed S.the-type S′.the-laws r _ is in
-    LL.owes T.the-type T′.the-laws (left r l) (new .1 .0, (new .1 .1 .0, (new .1 .1 .1 .0, (subst (λ (m : List ℕ). Prs m (array-value l ∷ [])) (sym (map-id l)) k, tt))))
+    LL.owes T.the-type T′.the-laws (left v r l) (new .1 .0, (new .1 .1 .0, (new .1 .1 .1 .0, (subst (λ (m : List ℕ). Prs m (array-value l ∷ [])) (sym (map-id l)) k, (d, tt)))))
 
 module _ {M : Type 1} (𝓤 : URA M) (H : Heap 𝓤) (A : Atoms 𝓤) (W : Given 𝓤 H A) (at-mem : Memory → SProp 𝓤) (run : Routine → Fun 𝓤) (κ κ′ : Lft) (q q′ : Share) (b o : ℕ) (γ : GName) (h : Registers) (y : RefT (List ℕ)) (n : ℕ) (single : Bool) where
   abbrev x : RefT Registers
@@ -120,8 +123,11 @@ module _ {M : Type 1} (𝓤 : URA M) (H : Heap 𝓤) (A : Atoms 𝓤) (W : Given
   abbrev ipr-value : Val
   ipr-value = LL.val P.the-type P′.the-laws (h .ipr)
 
+  abbrev delivery-value : Val
+  delivery-value = LL.val Y.the-type Y′.the-laws (h .delivery)
+
   -- the array's place in the record's cell
-  in-place : Part (Go {0}) W (‵ (fat fullShare T′.mir b o (record-value h))) fullShare (tyArray (tyInt w16) 24) b (o + 22) (array-value (h .prs)) (λ u. ‵ (fat fullShare T′.mir b o (vstruct (ofList (vint w64 (h .a) ∷ dbr-value ∷ ipr-value ∷ u ∷ [])))))
+  in-place : Part (Go {0}) W (‵ (fat fullShare T′.mir b o (record-value h))) fullShare (tyArray (tyInt w16) 24) b (o + 22) (array-value (h .prs)) (λ u. ‵ (fat fullShare T′.mir b o (vstruct (ofList (vint w64 (h .a) ∷ dbr-value ∷ ipr-value ∷ u ∷ delivery-value ∷ [])))))
   in-place = sub ! 3 refl (whole !)
 
   -- the array in place, under the name δ
@@ -130,14 +136,14 @@ module _ {M : Type 1} (𝓤 : URA M) (H : Heap 𝓤) (A : Atoms 𝓤) (W : Given
 
   -- what the callee's triple binds outside: a lifetime ν of the call for the array, and the memory's own
   abbrev at-call : Lft → GName → Callee 𝓤 H A at-mem run .Ghost
-  at-call ν δ = (((ν, (κ′, tt)), (fullShare, (q′, tt)), tt, (prs δ, (y, (h .a, (h .dbr, (h .ipr, (n, (single, tt))))))), (ptr-vals (prs δ), (slice-vals y, (uint-vals w64 (h .a), (dbr-value ∷ [], (ipr-value ∷ [], (uint-vals w32 n, (bool-vals single, tt)))))))), tt)
+  at-call ν δ = (((ν, (κ′, tt)), (fullShare, (q′, tt)), tt, (prs δ, (y, (h .a, (h .dbr, (h .ipr, (h .delivery, (n, (single, tt)))))))), (ptr-vals (prs δ), (slice-vals y, (uint-vals w64 (h .a), (dbr-value ∷ [], (ipr-value ∷ [], (delivery-value ∷ [], (uint-vals w32 n, (bool-vals single, tt))))))))), tt)
 
   goes : (ν : Lft) (δ : GName) → n < 2 ^ 32 → Is T.the-row h (record-value h ∷ [])
       → ent 𝓤 (⋆ 𝓤 H A ((‵ (flft ν fullShare) ⊛ ‵ (flft κ′ q′) ⊛ ‵ ftrue) ∷ ‵ (MutRef (named 0) ν (Array u16 24) .own (prs δ) (ptr-vals (prs δ))) ∷ ‵ (MutSlice (named 1) κ′ u64 .own y (slice-vals y)) ∷ [])) (Callee 𝓤 H A at-mem run .pre (at-call ν δ))
   goes ν δ fits g =
       let old = LL.owed T.the-type T′.the-laws h _ g in
       qed W ((‵ (flft ν fullShare) ⊛ ‵ (flft κ′ q′) ⊛ ‵ ftrue) ∷ ‵ (MutRef (named 0) ν (Array u16 24) .own (prs δ) (ptr-vals (prs δ))) ∷ ‵ (MutSlice (named 1) κ′ u64 .own y (slice-vals y)) ∷ []) ∵
-      nothing ! $ owned ! bool (Is bool) (bool-makes 𝓤 H A W) single _ refl $ fjoin ! $ owned ! u32 (Is u32) (uint-makes 𝓤 H A W w32) n _ (refl, fits) $ fjoin ! $ owned ! P.the-row (Is P.the-row) (LL.makes P.the-type P′.the-plain 𝓤 H A) (h .ipr) _ (old .1 .1 .0) $ fjoin ! $
+      nothing ! $ owned ! bool (Is bool) (bool-makes 𝓤 H A W) single _ refl $ fjoin ! $ owned ! u32 (Is u32) (uint-makes 𝓤 H A W w32) n _ (refl, fits) $ fjoin ! $ owned ! Y.the-row (Is Y.the-row) (LL.makes Y.the-type Y′.the-plain 𝓤 H A) (h .delivery) _ (old .1 .1 .1 .1 .0) $ fjoin ! $ owned ! P.the-row (Is P.the-row) (LL.makes P.the-type P′.the-plain 𝓤 H A) (h .ipr) _ (old .1 .1 .0) $ fjoin ! $
       owned ! D.the-row (Is D.the-row) (LL.makes D.the-type D′.the-plain 𝓤 H A) (h .dbr) _ (old .1 .0) $ fjoin ! $ owned ! u64 (Is u64) (uint-makes 𝓤 H A W w64) (h .a) _ (old .0) $ fjoin ! $
       move ! (3 ∷ 0 ∷ []) $ fjoin ! $ move ! (2 ∷ 0 ∷ []) $ fjoin ! $ move ! (1 ∷ 0 ∷ []) $ join ! $ frame ! $ done !
 
@@ -155,49 +161,50 @@ module _ {M : Type 1} (𝓤 : URA M) (H : Heap 𝓤) (A : Atoms 𝓤) (W : Given
     walk : Room u64 (length (y .now)) → n < 2 ^ 32 → ent 𝓤 (onEntry 𝓤 H A f.signature (κ, (κ′, tt)) (q, (q′, tt)) (x, (y, (n, (single, tt)))) vals) (WpFn 𝓤 H (𝓣 .C) (𝓣 .Λ) code.function (flat (typesAt (f.signature .params) (κ, (κ′, tt))) vals) (Own 𝓤 H A at-mem run .post here))
     walk room fits =
         qed W ((‵ (flft κ q) ⊛ ‵ (flft κ′ q′) ⊛ ‵ ftrue) ∷ ‵ (owns (MutRef (named 0) κ T.the-row ∷ MutSlice (named 1) κ′ u64 ∷ u32 ∷ bool ∷ []) (x, (y, (n, (single, tt)))) vals) ∷ []) ∵ enter ! (𝓣 .C) (𝓣 .Λ) code.function _ _ $
-        alloc1 ! (λ l₀. alloc1 ! (λ l₁. alloc1 ! (λ l₂. alloc1 ! (λ l₃. alloc1 ! (λ l₄. alloc1 ! (λ l₅. alloc1 ! (λ l₆. alloc1 ! (λ l₇. alloc1 ! (λ l₈. alloc1 ! (λ l₉. alloc1 ! (λ l₁₀. alloc1 ! (λ l₁₁. alloc0 ! $ params1 ! $
-        pass1 ! (init ! 20 refl (tt, tt)) $ pass1 ! (init ! 18 refl (tt, (tt, (record { fits = room .0 }, tt)))) $ pass1 ! (init ! 16 refl (tt, record { fits = fits })) $ pass1 ! (init ! 14 refl (tt, tt)) $ pass0 ! $
+        alloc1 ! (λ l₀. alloc1 ! (λ l₁. alloc1 ! (λ l₂. alloc1 ! (λ l₃. alloc1 ! (λ l₄. alloc1 ! (λ l₅. alloc1 ! (λ l₆. alloc1 ! (λ l₇. alloc1 ! (λ l₈. alloc1 ! (λ l₉. alloc1 ! (λ l₁₀. alloc1 ! (λ l₁₁. alloc1 ! (λ l₁₂. alloc0 ! $ params1 ! $
+        pass1 ! (init ! 22 refl (tt, tt)) $ pass1 ! (init ! 20 refl (tt, (tt, (record { fits = room .0 }, tt)))) $ pass1 ! (init ! 18 refl (tt, record { fits = fits })) $ pass1 ! (init ! 16 refl (tt, tt)) $ pass0 ! $
         -- the borrow of the record is opened
-        move ! (25 ∷ []) $ fsplit ! $ fsplit3 ! $ drop ! $ move ! (27 ∷ []) $ split ! $ move ! (2 ∷ 3 ∷ 0 ∷ []) $
+        move ! (27 ∷ []) $ fsplit ! $ fsplit3 ! $ drop ! $ move ! (29 ∷ []) $ split ! $ move ! (2 ∷ 3 ∷ 0 ∷ []) $
         opens ! tt T.the-row {h = h} b o (λ vs. spelt ! T.the-row (Is T.the-row) (shows 𝓤 H A T.the-row) (LL.vals T.the-type T′.the-laws) (LL.tells T.the-type T′.the-laws) fullShare h vs b o $
         move ! (1 ∷ []) $ peeks ! T.the-row (Is T.the-row) (shows 𝓤 H A T.the-row) h (record-value h ∷ []) (λ g. drop ! $ use1 W (‵ (fat fullShare T′.mir b o (record-value h))) (W .laws .raw-at fullShare T′.mir b o (record-value h)) $
-        -- [the record's cell; the open borrow; obs; auth; the memory's token; what the memory, the budget and the flag own; _11; …; _10; …; _9; …; _8; …; _7; …; _6; …; _5; …; _4; …; _3; …; _2; …; _1; …; room for _0; …]
+        -- [the record's cell; the open borrow; obs; auth; the memory's token; what the memory, the budget and the flag own; _12; …; _11; …; _10; …; _9; …; _8; …; _7; …; _6; …; _5; …; _4; …; _3; …; _2; …; _1; …; room for _0; …]
         let old = LL.owed T.the-type T′.the-laws h _ g in
-        assigns ! (of-opd ! (load ! (from ! (hop ! (look ! 26 refl) (fld ! refl (stop !)))) (look-in ! 0 (sub ! 0 refl (whole !))))) (from ! (stop !)) (init ! 18 refl (T′.the-laws .0 .lawful 𝓤 H A W .typed (h .a) _ (old .0) .0)) $
-        assigns ! (of-opd ! (load ! (from ! (hop ! (look ! 26 refl) (fld ! refl (stop !)))) (look-in ! 0 (sub ! 1 refl (whole !))))) (from ! (stop !)) (init ! 16 refl (LL.lawful D.the-type D′.the-laws 𝓤 H A W .typed (h .dbr) _ (old .1 .0) .0)) $
-        assigns ! (of-opd ! (load ! (from ! (hop ! (look ! 26 refl) (fld ! refl (stop !)))) (look-in ! 0 (sub ! 2 refl (whole !))))) (from ! (stop !)) (init ! 14 refl (LL.lawful P.the-type P′.the-laws 𝓤 H A W .typed (h .ipr) _ (old .1 .1 .0) .0)) $
-        assigns ! (addr ! (from ! (hop ! (look ! 26 refl) (fld ! refl (stop !))))) (from ! (stop !)) (init ! 10 refl (tt, tt)) $
-        assigns ! (addr ! (from ! (fld ! refl (hop ! (look-in ! 24 (sub ! 0 refl (whole !))) (stop !))))) (from ! (stop !)) (init ! 8 refl (tt, tt)) $
-        assigns ! (agg ! (and-then ! (load ! (from ! (stop !)) (look ! 8 refl)) (and-then ! (load ! (from ! (fld ! refl (stop !))) (look-in ! 24 (sub ! 1 refl (whole !)))) (no-more !)))) (from ! (stop !)) (init ! 6 refl (tt, (tt, (record { fits = room .0 }, tt)))) $
+        assigns ! (of-opd ! (load ! (from ! (hop ! (look ! 28 refl) (fld ! refl (stop !)))) (look-in ! 0 (sub ! 0 refl (whole !))))) (from ! (stop !)) (init ! 20 refl (T′.the-laws .0 .lawful 𝓤 H A W .typed (h .a) _ (old .0) .0)) $
+        assigns ! (of-opd ! (load ! (from ! (hop ! (look ! 28 refl) (fld ! refl (stop !)))) (look-in ! 0 (sub ! 1 refl (whole !))))) (from ! (stop !)) (init ! 18 refl (LL.lawful D.the-type D′.the-laws 𝓤 H A W .typed (h .dbr) _ (old .1 .0) .0)) $
+        assigns ! (of-opd ! (load ! (from ! (hop ! (look ! 28 refl) (fld ! refl (stop !)))) (look-in ! 0 (sub ! 2 refl (whole !))))) (from ! (stop !)) (init ! 16 refl (LL.lawful P.the-type P′.the-laws 𝓤 H A W .typed (h .ipr) _ (old .1 .1 .0) .0)) $
+        assigns ! (of-opd ! (load ! (from ! (hop ! (look ! 28 refl) (fld ! refl (stop !)))) (look-in ! 0 (sub ! 4 refl (whole !))))) (from ! (stop !)) (init ! 14 refl (LL.lawful Y.the-type Y′.the-laws 𝓤 H A W .typed (h .delivery) _ (old .1 .1 .1 .1 .0) .0)) $
+        assigns ! (addr ! (from ! (hop ! (look ! 28 refl) (fld ! refl (stop !))))) (from ! (stop !)) (init ! 10 refl (tt, tt)) $
+        assigns ! (addr ! (from ! (fld ! refl (hop ! (look-in ! 26 (sub ! 0 refl (whole !))) (stop !))))) (from ! (stop !)) (init ! 8 refl (tt, tt)) $
+        assigns ! (agg ! (and-then ! (load ! (from ! (stop !)) (look ! 8 refl)) (and-then ! (load ! (from ! (fld ! refl (stop !))) (look-in ! 26 (sub ! 1 refl (whole !)))) (no-more !)))) (from ! (stop !)) (init ! 6 refl (tt, (tt, (record { fits = room .0 }, tt)))) $
         -- the array is lent in place, for a lifetime ν of the call
         lft-new ! tt (λ ν. owned ! (Array u16 24) Prs (array-makes 𝓤 H A W u16 (uint-makes 𝓤 H A W w16) 24) (h .prs) _ (array-alone h g) $ move ! (2 ∷ 0 ∷ []) $
         use2 W (later (some (λ (δ : GName). ‵ (MutRef (named 0) (ν ∷ []) (Array u16 24) .own (prs δ) (ptr-vals (prs δ))) ⊛ Rest W u16 24 in-place (ν ∷ []) δ))) (lends-part W u16 24 in-place (ν ∷ []) (named 0) (h .prs)) $ await ! tt $ pick ! (λ δ. split ! $
-        -- [the array; what is kept of it; ν's token; the open borrow; obs; auth; the memory's token; what the memory, the budget and the flag own; _11; …; …; room for _0; …]
+        -- [the array; what is kept of it; ν's token; the open borrow; obs; auth; the memory's token; what the memory, the budget and the flag own; _12; …; …; room for _0; …]
         move ! (7 ∷ []) $ fsplit ! $ move ! (4 ∷ 8 ∷ []) $ join ! $ move ! (0 ∷ 3 ∷ 1 ∷ []) $ use3 W (raw (Callee 𝓤 H A at-mem run .pre (at-call (ν ∷ []) δ))) (goes (ν ∷ []) δ fits g) $
-        calls-at ! (fmOf 𝓤 H (W .laws) 𝓣) (Callee 𝓤 H A at-mem run) known (at-call (ν ∷ []) δ) (and-then ! (load ! (from ! (stop !)) (look ! 10 refl)) (and-then ! (load ! (from ! (stop !)) (look ! 6 refl)) (and-then ! (load ! (from ! (stop !)) (look ! 18 refl))
-        (and-then ! (load ! (from ! (stop !)) (look ! 16 refl)) (and-then ! (load ! (from ! (stop !)) (look ! 14 refl)) (and-then ! (load ! (from ! (stop !)) (look ! 22 refl)) (and-then ! (load ! (from ! (stop !)) (look ! 20 refl)) (no-more !)))))))) (λ w.
+        calls-at ! (fmOf 𝓤 H (W .laws) 𝓣) (Callee 𝓤 H A at-mem run) known (at-call (ν ∷ []) δ) (and-then ! (load ! (from ! (stop !)) (look ! 10 refl)) (and-then ! (load ! (from ! (stop !)) (look ! 6 refl)) (and-then ! (load ! (from ! (stop !)) (look ! 20 refl))
+        (and-then ! (load ! (from ! (stop !)) (look ! 18 refl)) (and-then ! (load ! (from ! (stop !)) (look ! 16 refl)) (and-then ! (load ! (from ! (stop !)) (look ! 14 refl)) (and-then ! (load ! (from ! (stop !)) (look ! 24 refl)) (and-then ! (load ! (from ! (stop !)) (look ! 22 refl)) (no-more !))))))))) (λ w.
         use1 W (later (some (λ (r : Answered). ((‵ (flft (ν ∷ []) fullShare) ⊛ ‵ (flft κ′ q′) ⊛ ‵ ftrue) ⊛ ‵ (S.the-row .own r (w ∷ []))) ⊛ raw (ensured 𝓤 H A callee.ended (callee.clauses 𝓤 H A at-mem run) (ν ∷ [], (κ′, tt)) (at-call (ν ∷ []) δ .0 .3) tt r)))) (id⊢ 𝓤 _) $ await ! tt $ pick ! (λ r.
         -- what the callee ensures, at some last lists
-        split ! $ move ! (1 ∷ []) $ use1 W (some (λ (zs : Lasts callee.ended (ν ∷ [], (κ′, tt)) (at-call (ν ∷ []) δ .0 .3)). ‵ (lasts callee.ended (ν ∷ [], (κ′, tt)) (at-call (ν ∷ []) δ .0 .3) zs) ⊛ raw (fact 𝓤 (Call-says single n h (y .now) (r .answer) (left r (zs .0)) (zs .1 .0))))) (id⊢ 𝓤 _) $ pick ! (λ zs.
-        split ! $ move ! (1 ∷ []) $ heard ! (Call-says single n h (y .now) (r .answer) (left r (zs .0)) (zs .1 .0)) (λ e. fsplit ! $ move ! (1 ∷ []) $ fsplit ! $ fsplit ! $ move ! (1 ∷ []) $ feqL ! (λ l.
+        split ! $ move ! (1 ∷ []) $ use1 W (some (λ (zs : Lasts callee.ended (ν ∷ [], (κ′, tt)) (at-call (ν ∷ []) δ .0 .3)). ‵ (lasts callee.ended (ν ∷ [], (κ′, tt)) (at-call (ν ∷ []) δ .0 .3) zs) ⊛ raw (fact 𝓤 (Call-says single n h (y .now) (r .answer) (left (h .delivery) r (zs .0)) (zs .1 .0))))) (id⊢ 𝓤 _) $ pick ! (λ zs.
+        split ! $ move ! (1 ∷ []) $ heard ! (Call-says single n h (y .now) (r .answer) (left (h .delivery) r (zs .0)) (zs .1 .0)) (λ e. fsplit ! $ move ! (1 ∷ []) $ fsplit ! $ fsplit ! $ move ! (1 ∷ []) $ feqL ! (λ l.
         -- [the memory's last list; …; the array's; the tokens and the result; …]
         move ! (3 ∷ []) $ split ! $ move ! (1 ∷ []) $ peeks ! S.the-row (Is S.the-row) (shows 𝓤 H A S.the-row) r (w ∷ []) (λ is. let new = LL.owed S.the-type S′.the-laws r _ is in
-        land ! (from ! (stop !)) (init ! 16 refl (LL.lawful S.the-type S′.the-laws 𝓤 H A W .typed r _ is .0)) $ rewrite ! 16 (λ (u : Val). ‵ (fat fullShare S′.mir l₈ 0 u)) (ap only (LL.tells S.the-type S′.the-laws r _ is)) refl $
+        land ! (from ! (stop !)) (init ! 16 refl (LL.lawful S.the-type S′.the-laws 𝓤 H A W .typed r _ is .0)) $ rewrite ! 16 (λ (u : Val). ‵ (fat fullShare S′.mir l₉ 0 u)) (ap only (LL.tells S.the-type S′.the-laws r _ is)) refl $
         -- the lifetime is ended, and the array is put back
         move ! (1 ∷ []) $ split ! $ lft-end ! tt $ move ! (0 ∷ 7 ∷ 5 ∷ []) $
-        use3 W (later (‵ (fat fullShare T′.mir b o (record-value (together (h .a) (h .dbr) (h .ipr) (zs .0)))) ⊛ ‵ (Array u16 24 .own (zs .0) (array-value (zs .0) ∷ [])))) (comes-part W u16 24 in-place (ν ∷ []) δ (zs .0) (array-value (zs .0)) (array-tells (zs .0))) $ await ! tt $ split ! $
+        use3 W (later (‵ (fat fullShare T′.mir b o (record-value (together (h .a) (h .dbr) (h .ipr) (h .delivery) (zs .0)))) ⊛ ‵ (Array u16 24 .own (zs .0) (array-value (zs .0) ∷ [])))) (comes-part W u16 24 in-place (ν ∷ []) δ (zs .0) (array-value (zs .0)) (array-tells (zs .0))) $ await ! tt $ split ! $
         move ! (1 ∷ []) $ peeks ! (Array u16 24) Prs (shows 𝓤 H A (Array u16 24)) (zs .0) (array-value (zs .0) ∷ []) (λ k. drop ! $
-        -- [the record's cell; the memory's token; what the answer owns; the memory's last list; …; …; the open borrow; obs; auth; _11; …; _10; …; _9; …; _8; …; _7; …; _6; …; _5; …; _4; …; _3; …; _2; …; _1; …; room for _0; …]
-        assigns ! (of-opd ! (load ! (from ! (fld ! refl (stop !))) (look-in ! 15 (sub ! 1 refl (whole !))))) (from ! (hop ! (look ! 29 refl) (fld ! refl (stop !)))) (store-in ! 0 (sub ! 0 refl (whole !)) (T′.the-laws .0 .lawful 𝓤 H A W .typed (r .a) _ (new .1 .0) .0)) $
-        assigns ! (of-opd ! (load ! (from ! (fld ! refl (stop !))) (look-in ! 15 (sub ! 2 refl (whole !))))) (from ! (hop ! (look ! 29 refl) (fld ! refl (stop !)))) (store-in ! 0 (sub ! 1 refl (whole !)) (LL.lawful D.the-type D′.the-laws 𝓤 H A W .typed (r .dbr) _ (new .1 .1 .0) .0)) $
-        assigns ! (of-opd ! (load ! (from ! (fld ! refl (stop !))) (look-in ! 15 (sub ! 3 refl (whole !))))) (from ! (hop ! (look ! 29 refl) (fld ! refl (stop !)))) (store-in ! 0 (sub ! 2 refl (whole !)) (LL.lawful P.the-type P′.the-laws 𝓤 H A W .typed (r .ipr) _ (new .1 .1 .1 .0) .0)) $
-        assigns ! (of-opd ! (load ! (from ! (fld ! refl (stop !))) (look-in ! 15 (sub ! 0 refl (whole !))))) (from ! (stop !)) (init ! 31 refl (LL.lawful E.the-type E′.the-laws 𝓤 H A W .typed (r .answer) _ (new .0) .0)) $
+        -- [the record's cell; the memory's token; what the answer owns; the memory's last list; …; …; the open borrow; obs; auth; _12; …; _11; …; _10; …; _9; …; _8; …; _7; …; _6; …; _5; …; _4; …; _3; …; _2; …; _1; …; room for _0; …]
+        assigns ! (of-opd ! (load ! (from ! (fld ! refl (stop !))) (look-in ! 15 (sub ! 1 refl (whole !))))) (from ! (hop ! (look ! 31 refl) (fld ! refl (stop !)))) (store-in ! 0 (sub ! 0 refl (whole !)) (T′.the-laws .0 .lawful 𝓤 H A W .typed (r .a) _ (new .1 .0) .0)) $
+        assigns ! (of-opd ! (load ! (from ! (fld ! refl (stop !))) (look-in ! 15 (sub ! 2 refl (whole !))))) (from ! (hop ! (look ! 31 refl) (fld ! refl (stop !)))) (store-in ! 0 (sub ! 1 refl (whole !)) (LL.lawful D.the-type D′.the-laws 𝓤 H A W .typed (r .dbr) _ (new .1 .1 .0) .0)) $
+        assigns ! (of-opd ! (load ! (from ! (fld ! refl (stop !))) (look-in ! 15 (sub ! 3 refl (whole !))))) (from ! (hop ! (look ! 31 refl) (fld ! refl (stop !)))) (store-in ! 0 (sub ! 2 refl (whole !)) (LL.lawful P.the-type P′.the-laws 𝓤 H A W .typed (r .ipr) _ (new .1 .1 .1 .0) .0)) $
+        assigns ! (of-opd ! (load ! (from ! (fld ! refl (stop !))) (look-in ! 15 (sub ! 0 refl (whole !))))) (from ! (stop !)) (init ! 33 refl (LL.lawful E.the-type E′.the-laws 𝓤 H A W .typed (r .answer) _ (new .0) .0)) $
         -- the borrow is closed at the new record
-        use1 W (‵ (cellAt fullShare (T.the-row .mir) (record-value (left r (zs .0)) ∷ []) b o)) (W .laws .at-raw fullShare T′.mir b o (record-value (left r (zs .0)))) $
-        owned ! T.the-row (Is T.the-row) (LL.makes T.the-type T′.the-plain 𝓤 H A) (left r (zs .0)) _ (related r (zs .0) w is k) $ move ! (1 ∷ 0 ∷ 7 ∷ 8 ∷ 9 ∷ []) $ closes ! tt T.the-row (left r (zs .0)) (record-value (left r (zs .0)) ∷ []) b o $
-        returns ! (look ! 30 refl) $ forget ! 8 refl $ forget ! 10 refl $ forget ! 12 refl $ forget ! 14 refl $ forget ! 16 refl $ forget ! 18 refl $ forget ! 20 refl $ forget ! 22 refl $ forget ! 24 refl $ forget ! 26 refl $ forget ! 28 refl $ forget ! 30 refl $
-        move ! (30 ∷ 31 ∷ []) $ free1 ! $ move ! (28 ∷ 29 ∷ []) $ free1 ! $ move ! (26 ∷ 27 ∷ []) $ free1 ! $ move ! (24 ∷ 25 ∷ []) $ free1 ! $ move ! (22 ∷ 23 ∷ []) $ free1 ! $ move ! (20 ∷ 21 ∷ []) $ free1 ! $ move ! (18 ∷ 19 ∷ []) $ free1 ! $ move ! (16 ∷ 17 ∷ []) $ free1 ! $ move ! (14 ∷ 15 ∷ []) $ free1 ! $ move ! (12 ∷ 13 ∷ []) $ free1 ! $ move ! (10 ∷ 11 ∷ []) $ free1 ! $ move ! (8 ∷ 9 ∷ []) $ free1 ! $ free0 ! $
-        keep ! (0 ∷ 2 ∷ 3 ∷ 5 ∷ []) $ by ! (exits (r .answer) (left r (zs .0)) (zs .1 .0) (new .0) e l))))))))))))))))))))))))
+        use1 W (‵ (cellAt fullShare (T.the-row .mir) (record-value (left (h .delivery) r (zs .0)) ∷ []) b o)) (W .laws .at-raw fullShare T′.mir b o (record-value (left (h .delivery) r (zs .0)))) $
+        owned ! T.the-row (Is T.the-row) (LL.makes T.the-type T′.the-plain 𝓤 H A) (left (h .delivery) r (zs .0)) _ (related (h .delivery) r (zs .0) w (old .1 .1 .1 .1 .0) is k) $ move ! (1 ∷ 0 ∷ 7 ∷ 8 ∷ 9 ∷ []) $ closes ! tt T.the-row (left (h .delivery) r (zs .0)) (record-value (left (h .delivery) r (zs .0)) ∷ []) b o $
+        returns ! (look ! 32 refl) $ forget ! 8 refl $ forget ! 10 refl $ forget ! 12 refl $ forget ! 14 refl $ forget ! 16 refl $ forget ! 18 refl $ forget ! 20 refl $ forget ! 22 refl $ forget ! 24 refl $ forget ! 26 refl $ forget ! 28 refl $ forget ! 30 refl $ forget ! 32 refl $
+        move ! (32 ∷ 33 ∷ []) $ free1 ! $ move ! (30 ∷ 31 ∷ []) $ free1 ! $ move ! (28 ∷ 29 ∷ []) $ free1 ! $ move ! (26 ∷ 27 ∷ []) $ free1 ! $ move ! (24 ∷ 25 ∷ []) $ free1 ! $ move ! (22 ∷ 23 ∷ []) $ free1 ! $ move ! (20 ∷ 21 ∷ []) $ free1 ! $ move ! (18 ∷ 19 ∷ []) $ free1 ! $ move ! (16 ∷ 17 ∷ []) $ free1 ! $ move ! (14 ∷ 15 ∷ []) $ free1 ! $ move ! (12 ∷ 13 ∷ []) $ free1 ! $ move ! (10 ∷ 11 ∷ []) $ free1 ! $ move ! (8 ∷ 9 ∷ []) $ free1 ! $ free0 ! $
+        keep ! (0 ∷ 2 ∷ 3 ∷ 5 ∷ []) $ by ! (exits (r .answer) (left (h .delivery) r (zs .0)) (zs .1 .0) (new .0) e l)))))))))))))))))))))))))
 
 call-meets : {M : Type 1} (𝓤 : URA M) (H : Heap 𝓤) (A : Atoms 𝓤) → Given 𝓤 H A → (at-mem : Memory → SProp 𝓤) (run : Routine → Fun 𝓤) (𝓣 : Tables 𝓤 H) → Triple 𝓤 (𝓣 .C #entry·run-fields) (Callee 𝓤 H A at-mem run)
     → Triple 𝓤 (WpFn 𝓤 H (𝓣 .C) (𝓣 .Λ) code.function) (Own 𝓤 H A at-mem run)

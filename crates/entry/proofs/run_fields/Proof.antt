@@ -16,14 +16,14 @@ slice-aggregate-run c = search needs
 run-requires : tie.Need-run-requires
 run-requires c κs = search needs
 
-cast-t17 : tie.Need-cast-t17
-cast-t17 c = search (needs, c .before .before .before .before .run .ensures .fits)
-
 cast-t18 : tie.Need-cast-t18
-cast-t18 c = search (needs, c .before .before .before .before .before .run .ensures .fits)
+cast-t18 c = search (needs, c .before .before .before .before .run .ensures .fits)
 
 cast-t19 : tie.Need-cast-t19
-cast-t19 c = search (needs, c .before .before .before .before .before .before .run .ensures .fits)
+cast-t19 c = search (needs, c .before .before .before .before .before .run .ensures .fits)
+
+cast-t20 : tie.Need-cast-t20
+cast-t20 c = search (needs, c .before .before .before .before .before .before .run .ensures .fits)
 
 from-core-requires : tie.Need-from-core-requires
 from-core-requires c κs = search (needs, c .before .before .before .before .before .before .run .ensures .fits)
@@ -38,7 +38,7 @@ same-length : tie.Need-same-length
 same-length c = search needs
 
 returns : tie.Need-returns
-returns c = call-says _ _ _ _ _ _ _ (c .before .before .before .before .before .before .before .before .before .before .before .before .before .before .to-base .ensures .0) (c .before .before .before .before .before .before .before .before .before .before .before .before .before .to-core .ensures .0) _ _ _ _ _ _ _ (c .before .before .before .before .before .before .before .before .before .run .ensures) _ _ _ (c .before .before .from-core .ensures) (c .from-core2 .ensures) (c .before .from-base .ensures)
+returns c = call-says _ _ _ _ _ _ _ _ (c .before .before .before .before .before .before .before .before .before .before .before .before .before .before .to-base .ensures .0) (c .before .before .before .before .before .before .before .before .before .before .before .before .before .to-core .ensures .0) _ _ _ _ _ _ _ (c .before .before .before .before .before .before .before .before .before .run .ensures) _ _ _ (c .before .before .from-core .ensures) (c .from-core2 .ensures) (c .before .from-base .ensures)
 
 pub run-fields-spec : {M : Type 1} → statement M
 run-fields-spec =
@@ -48,9 +48,9 @@ run-fields-spec =
     to-core-requires
     slice-aggregate-run
     run-requires
-    cast-t17
     cast-t18
     cast-t19
+    cast-t20
     from-core-requires
     from-base-requires
     from-core-requires-2

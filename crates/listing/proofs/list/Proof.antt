@@ -6,21 +6,21 @@ use Prim.Native.Nat.{_-_, _*_, _≤_}
 use lib.ListN.{length, take, drop}
 use borrow.Author.Needs.{needs}
 use Rattle.model.specs.Questions.{start-questions}
-use Rattle.state.specs.View.{as-machine}
+use Rattle.state.specs.View.{as-machine, as-delivery}
 use Rattle.chunks.specs.Chunk.{text-from}
 use Rattle.listing.proofs.ListedLaws.{lines-of-a-run, next-far, next-few}
 use Rattle.listing.proofs.list.Statement.{statement}
 use Rattle.listing.proofs.list.Tie as tie
 
 abbrev Inv-loop : tie.InvT-loop
-Inv-loop prs₀ memory₀ count total budget text₀ x₀ done₀ prs memory text x done =
+Inv-loop delivery prs₀ memory₀ count total budget text₀ x₀ done₀ prs memory text x done =
     (done ≤ budget) × (count ≤ done) × (x .«is_last» ≡ false) × (length memory ≡ length memory₀) × (length text ≡ length text₀)
     × (x .length ≤ length text) × (x .length ≤ 64 * (done - count)) × (drop (x .length) text ≡ drop (x .length) text₀)
-    × (start-questions (as-machine (x .core) prs memory) ≡ 0) × (x .total ≤ 64 * done)
-    × (take (x .length) text ++ text-from (budget - done) done (x .total) (as-machine (x .core) prs memory) ≡ text-from (budget - count) count total (as-machine (x₀ .core) prs₀ memory₀))
+    × (start-questions (as-delivery delivery) (as-machine (x .core) prs memory) ≡ 0) × (x .total ≤ 64 * done)
+    × (take (x .length) text ++ text-from (as-delivery delivery) (budget - done) done (x .total) (as-machine (x .core) prs memory) ≡ text-from (as-delivery delivery) (budget - count) count total (as-machine (x₀ .core) prs₀ memory₀))
 
 abbrev μ-loop : tie.MeasureT-loop
-μ-loop prs₀ memory₀ count total budget text₀ x₀ done₀ prs memory text x done = budget - done
+μ-loop delivery prs₀ memory₀ count total budget text₀ x₀ done₀ prs memory text x done = budget - done
 
 loop-holds : tie.Need-loop-holds Inv-loop μ-loop
 loop-holds c = search (needs, lines-of-a-run)

@@ -15,13 +15,13 @@ same-length : tie.Need-same-length
 same-length c = search needs
 
 returns : tie.Need-returns
-returns c = refused-whole _ _ _ _ _ _ _ (c .before .before .start-answer .ensures) _ (c .before .if1 .taken) (c .answer-of .ensures)
+returns c = refused-whole _ _ _ _ _ _ _ _ (c .before .before .start-answer .ensures) _ (c .before .if1 .taken) (c .answer-of .ensures)
 
 run-requires : tie.Need-run-requires
 run-requires c κs = sym (c .before .before .before .before .start-answer .ensures) ∙ (c .before .before .before .if1 .left)
 
 counted-requires : tie.Need-counted-requires
-counted-requires c κs = sum-fits _ _ (sym (c .before .before .before .before .before .before .before .before .before .before .start-answer .ensures) ∙ (c .before .before .before .before .before .before .before .before .before .if1 .left)) _ (c .before .before .before .before .before .run .ensures .2) (search needs)
+counted-requires c κs = sum-fits _ _ _ (sym (c .before .before .before .before .before .before .before .before .before .before .start-answer .ensures) ∙ (c .before .before .before .before .before .before .before .before .before .if1 .left)) _ (c .before .before .before .before .before .run .ensures .2) (search needs)
 
 answer-of-requires-2 : tie.Need-answer-of-requires-2
 answer-of-requires-2 c κs = c .before .before .before .before .before .before .run .ensures .0 .pointer-within
@@ -33,7 +33,7 @@ same-length-3 : tie.Need-same-length-3
 same-length-3 c = search needs
 
 returns-2 : tie.Need-returns-2
-returns-2 c = run-whole _ _ _ _ _ _ _ (c .before .before .before .before .before .before .before .before .before .before .before .before .start-answer .ensures) _ (c .before .before .before .before .before .before .before .before .before .before .before .if1 .left) _ _ _ _ (c .before .before .before .before .before .before .before .run .ensures .0) (c .before .before .before .before .before .before .before .run .ensures .1) (c .before .before .before .before .before .before .before .run .ensures .2) _ (c .before .counted .ensures) (c .answer-of2 .ensures)
+returns-2 c = run-whole _ _ _ _ _ _ _ _ (c .before .before .before .before .before .before .before .before .before .before .before .before .start-answer .ensures) _ (c .before .before .before .before .before .before .before .before .before .before .before .if1 .left) _ _ _ _ (c .before .before .before .before .before .before .before .run .ensures .0) (c .before .before .before .before .before .before .before .run .ensures .1) (c .before .before .before .before .before .before .before .run .ensures .2) _ (c .before .counted .ensures) (c .answer-of2 .ensures)
 
 pub run-spec : {M : Type 1} → statement M
 run-spec =

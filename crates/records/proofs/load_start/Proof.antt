@@ -13,6 +13,9 @@ returns-2 : tie.Need-returns-2
 unfolding Outcome-within
 returns-2 c = λ e m h. search (needs, start-loaded)
 
+start-size-requires : tie.Need-start-size-requires
+start-size-requires c κs = search needs
+
 slice-aggregate-registers-at : tie.Need-slice-aggregate-registers-at
 slice-aggregate-registers-at c = search (needs, start-loaded)
 
@@ -26,4 +29,10 @@ returns-3 c = λ e m h. search (needs, start-loaded)
 pub load-start-spec : {M : Type 1} → statement M
 load-start-spec =
     tie.close
-    (tie.spec returns returns-2 slice-aggregate-registers-at registers-at-requires returns-3)
+    (tie.spec
+    returns
+    returns-2
+    start-size-requires
+    slice-aggregate-registers-at
+    registers-at-requires
+    returns-3)

@@ -3,19 +3,19 @@ use mathlib.Core.Path.{_≡_}
 use Prim.Native.Nat.{_*_, _≤_}
 use lib.ListN.{length}
 use Rattle.model.specs.Questions.{start-questions}
-use Rattle.state.specs.View.{as-machine}
+use Rattle.state.specs.View.{as-machine, as-delivery}
 use borrow.Author.Needs.{needs}
 use Rattle.simulate.proofs.PrintLaws.{goes-on-few, prints}
 use Rattle.simulate.proofs.print_listing.Statement.{statement}
 use Rattle.simulate.proofs.print_listing.Tie as tie
 
 abbrev Inv-loop : tie.InvT-loop
-Inv-loop memory₀ budget text₀ prs₀ x₀ turns₀ memory text prs x turns =
-    (65536 ≡ length text) × (x .count ≤ budget) × (length memory ≡ length memory₀) × (start-questions (as-machine (x .line .core) prs memory) ≡ 0)
+Inv-loop delivery memory₀ budget text₀ prs₀ x₀ turns₀ memory text prs x turns =
+    (65536 ≡ length text) × (x .count ≤ budget) × (length memory ≡ length memory₀) × (start-questions (as-delivery delivery) (as-machine (x .line .core) prs memory) ≡ 0)
     × (x .line .total ≤ 64 * x .count)
 
 abbrev μ-loop : tie.MeasureT-loop
-μ-loop memory₀ budget text₀ prs₀ x₀ turns₀ memory text prs x turns = turns
+μ-loop delivery memory₀ budget text₀ prs₀ x₀ turns₀ memory text prs x turns = turns
 
 large-buffer-requires : tie.Need-large-buffer-requires Inv-loop μ-loop
 large-buffer-requires c κs = search (needs, prints)

@@ -13,7 +13,7 @@ use Rattle.simulate.proofs.read_image.Tie as tie
 
 abbrev Inv-loop : tie.InvT-loop
 Inv-loop store₀ buffer₀ x₀ kept₀ turns₀ t11 store buffer x kept turns =
-    (65536 ≡ length buffer) × (kept < 61) × (length store ≡ length store₀) × (x .outcome ≡ More kept) × Loading-within (x .loading) store
+    (65536 ≡ length buffer) × (kept < 66) × (length store ≡ length store₀) × (x .outcome ≡ More kept) × Loading-within (x .loading) store
 
 abbrev μ-loop : tie.MeasureT-loop
 μ-loop store₀ buffer₀ x₀ kept₀ turns₀ t11 store buffer x kept turns = turns

@@ -1,8 +1,8 @@
 //! One machine, or one image, through both implementations.
 
 use crate::library::{Answer, Lent};
-use crate::reach::{Place, Reach};
-use second::{Instruction, Registers, Reply};
+use crate::reach::{Place, Reach, Unsaved};
+use second::{Descriptor, Instruction, Registers, Reply};
 
 /// What a call is handed.
 #[derive(Clone, Debug, Default, PartialEq, Eq)]
@@ -37,6 +37,8 @@ pub struct Comparer {
 
 /// Bytes behind a buffer, which the library must leave alone like those before it.
 const BEHIND: usize = 64;
+/// What a conversion is lent behind the image: room for what ST gains.
+const ROOM: usize = 5;
 /// The largest budget for which a converted image is run.
 const BUDGET: u32 = 4000;
 
@@ -83,11 +85,14 @@ impl Comparer {
         let mut total = 0;
         for count in 0..machine.budget {
             let opcode = opcode_at_ipr(&registers, &self.mine);
-            let step_reply = second::step(&mut registers, &mut self.mine);
+            let (step_reply, fault) = second::step_and_fault(&mut registers, &mut self.mine);
             let answer = self.lent.step();
             self.agree("kuzhlemor_step", step_reply, answer, &registers)
                 .map_err(|Difference(text)| Difference(format!("step {}: {text}", count + 1)))?;
-            self.reach.step(opcode, step_reply);
+            match (fault, step_reply) {
+                (Some(fault), Reply::Spent { .. }) => self.reach.delivered(opcode, fault, step_reply),
+                _ => self.reach.step(opcode, step_reply),
+            }
             match step_reply {
                 Reply::Spent { pointer_words, .. } => {
                     total += pointer_words;
@@ -98,7 +103,8 @@ impl Comparer {
                     reply = Reply::Halted { count: count + 1, pointer_words: total };
                 }
                 Reply::Fault { fault, .. } => {
-                    self.reach.fault(step_reply, fault_place(&registers, &self.mine));
+                    self.reach.fault(opcode, step_reply, fault_place(&registers, &self.mine));
+                    self.reach.undelivered(fault, unsaved(&registers, &self.mine));
                     reply = Reply::Fault { fault, count, pointer_words: total };
                 }
                 Reply::Refused { number } => reply = Reply::Refused { number },
@@ -180,30 +186,34 @@ impl Comparer {
         Err(Difference(text))
     }
 
-    /// The conversion, in place: the answer, every byte of the image and the bytes around it, refused or not. Where it
-    /// drops something, what comes out is looked at as well.
+    /// The conversion, in place: the answer, every byte of the image and the bytes around it, refused or not. What comes
+    /// out is looked at as well: it is no stored image, and it means what the stored one did.
     fn conversion(&mut self, image: &[u8], filler: u8) -> Result<(), Difference> {
         let mine = second::convert(image);
         self.convert("kuzhlemor_convert", image, &mine, filler)?;
         self.reach.conversion(image, &mine);
-        match mine {
-            Ok(new) if new.len() < image.len() => {
-                self.convert("kuzhlemor_convert of what it gave", &new, &Ok(new.clone()), !filler)?;
-                self.listing_stays(image, &new, filler)
-            }
-            _ => Ok(()),
-        }
+        let Ok(new) = mine else { return Ok(()) };
+        self.convert("kuzhlemor_convert of what it gave", &new, &Err(41), !filler)?;
+        self.listing_stays(image, &new, filler)
     }
 
     /// Is this the library's answer, and are these the bytes? Behind what it gives they stay as they were.
     fn convert(&mut self, call: &str, image: &[u8], mine: &Result<Vec<u8>, u8>, filler: u8) -> Result<(), Difference> {
         let start = usize::from(filler >> 3) % 8;
+        // Whatever the room holds, it isn't read as records.
+        let room: &[u8; ROOM] = match filler % 4 {
+            0 => &[0; ROOM],
+            1 => b"RN\0\0\0",
+            2 => b"WD\0\0\0",
+            _ => &[filler; ROOM],
+        };
         let [expected, lent] = &mut self.texts;
         for bytes in [&mut *expected, &mut *lent] {
             bytes.clear();
             bytes.resize(start, filler);
             bytes.extend_from_slice(image);
-            bytes.resize(start + image.len() + BEHIND, filler);
+            bytes.extend_from_slice(room);
+            bytes.resize(start + image.len() + ROOM + BEHIND, filler);
         }
         let my_answer = match mine {
             Ok(new) => {
@@ -212,12 +222,30 @@ impl Comparer {
             }
             Err(number) => -i64::from(*number),
         };
-        let answer = crate::library::convert(&mut lent[start..start + image.len()]);
-        if my_answer == answer && expected == lent {
+        let answer = crate::library::convert(&mut lent[start..start + image.len() + ROOM]);
+        self.converted(&format!("{call}, {} bytes", image.len()), start, [my_answer, answer])
+    }
+
+    /// A conversion with fewer bytes than its room: an empty image.
+    pub fn less_than_room(&mut self, length: usize, filler: u8) -> Result<(), Difference> {
+        let start = usize::from(filler >> 3) % 8;
+        let [expected, lent] = &mut self.texts;
+        for bytes in [&mut *expected, &mut *lent] {
+            bytes.clear();
+            bytes.resize(start + length + BEHIND, filler);
+        }
+        let answer = crate::library::convert(&mut lent[start..start + length]);
+        self.converted(&format!("kuzhlemor_convert with {length} bytes"), start, [-42, answer])
+    }
+
+    /// Are the answers equal, and the bytes that are expected those that were lent?
+    fn converted(&self, call: &str, start: usize, [mine, theirs]: [i64; 2]) -> Result<(), Difference> {
+        let [expected, lent] = &self.texts;
+        if mine == theirs && expected == lent {
             return Ok(());
         }
-        let mut text = format!("{call}, {} bytes: second {my_answer}, library {answer}", image.len());
-        if let Some(first) = expected.iter().zip(&*lent).position(|(mine, theirs)| mine != theirs) {
+        let mut text = format!("{call}: second {mine}, library {theirs}");
+        if let Some(first) = expected.iter().zip(lent).position(|(mine, theirs)| mine != theirs) {
             let end = (first + 16).min(lent.len());
             text += &format!("\n  from byte {} of the image on:", first as i64 - start as i64);
             text += &format!("\n  second  {:02x?}\n  library {:02x?}", &expected[first..end], &lent[first..end]);
@@ -266,6 +294,25 @@ fn fault_place(registers: &Registers, memory: &[u64]) -> Place {
         }
         Ok(instruction) if instruction.i => Place::InstructionWithI,
         _ => Place::Before,
+    }
+}
+
+/// Why a fault wasn't saved.
+fn unsaved(registers: &Registers, memory: &[u64]) -> Unsaved {
+    if registers.fault_switch == 0 {
+        return Unsaved::SwitchOff;
+    }
+    if registers.save_segment >= registers.dbr.length {
+        return Unsaved::No(11);
+    }
+    let word = memory[registers.dbr.address as usize + usize::from(registers.save_segment)];
+    let save = Descriptor::from_word(word);
+    match save {
+        Descriptor { v: false, .. } => Unsaved::No(12),
+        _ if save.r1 > save.r2 || save.r2 > save.r3 => Unsaved::No(13),
+        _ if save.address as usize + usize::from(save.length) > memory.len() => Unsaved::No(14),
+        _ if save.length < 13 => Unsaved::Short,
+        _ => Unsaved::NotWritable,
     }
 }
 

@@ -2,7 +2,7 @@
 
 use crate::compare::Machine;
 use second::image::Record;
-use second::{Descriptor, Instruction, Pointer, Registers};
+use second::{Descriptor, Instruction, Pointer, Registers, Rules};
 
 /// RING 1, SEGNO 2, WORDNO 2.
 pub fn pointer_bytes(pointer: Pointer) -> [u8; 5] {
@@ -11,8 +11,17 @@ pub fn pointer_bytes(pointer: Pointer) -> [u8; 5] {
     [pointer.ring, segno_high, segno_low, wordno_high, wordno_low]
 }
 
-/// The ST record.
+/// The ST record. A switch that no byte holds is refused as 255 is.
 pub fn st(registers: &Registers) -> Vec<u8> {
+    let mut record = stored_st(registers);
+    record.push(u8::try_from(registers.fault_switch).unwrap_or(u8::MAX));
+    record.extend(registers.save_segment.to_be_bytes());
+    record.extend(registers.handler_segment.to_be_bytes());
+    record
+}
+
+/// The ST record of a stored image, without switch and segments.
+pub fn stored_st(registers: &Registers) -> Vec<u8> {
     let mut record = b"ST".to_vec();
     record.extend(registers.a.to_be_bytes());
     record.extend(registers.dbr.address.to_be_bytes());
@@ -41,11 +50,19 @@ pub fn image(machine: &Machine) -> Vec<u8> {
     image
 }
 
+/// An image's whole records, by the rules under which they go further, and the bytes behind them.
+pub fn split(image: &[u8]) -> (Rules, Vec<&[u8]>, &[u8]) {
+    let whole = |rules| second::image::records(image, rules).map(|(_, bytes)| bytes.len()).sum::<usize>();
+    let rules = if whole(Rules::Stored) > whole(Rules::Today) { Rules::Stored } else { Rules::Today };
+    (rules, second::image::records(image, rules).map(|(_, bytes)| bytes).collect(), &image[whole(rules)..])
+}
+
 /// An image's first records in words, in order.
 pub fn records(image: &[u8]) -> String {
-    let names = second::image::records(image).map(|(record, _)| match record {
+    let (rules, ..) = split(image);
+    let names = second::image::records(image, rules).map(|(record, bytes)| match record {
         Record::Me { words } => format!("ME {words}"),
-        Record::St { .. } => "ST".to_string(),
+        Record::St { .. } => format!("ST of {} bytes", bytes.len() - 2),
         Record::Wd { address, word } => format!("WD {address} {word:#x}"),
         Record::Rn { budget } => format!("RN {budget}"),
     });
@@ -55,10 +72,11 @@ pub fn records(image: &[u8]) -> String {
 
 /// The machine in words.
 pub fn describe(machine: &Machine) -> String {
-    let Registers { a, dbr, ipr, pr } = machine.registers;
+    let Registers { a, dbr, ipr, pr, fault_switch, save_segment, handler_segment } = machine.registers;
     let pointer = |pointer: Pointer| format!("ring {} segment {} word {}", pointer.ring, pointer.segno, pointer.wordno);
     let mut text = format!(
-        "{} words of memory, budget {}\nA {a:#x}\nDBR {} and {}\nIPR {}\n",
+        "{} words of memory, budget {}\nswitch {fault_switch}, save segment {save_segment}, handler segment \
+         {handler_segment}\nA {a:#x}\nDBR {} and {}\nIPR {}\n",
         machine.memory.len(),
         machine.budget,
         dbr.address,
@@ -128,6 +146,9 @@ pub fn shrink(mut machine: Machine, fails: &mut dyn FnMut(&Machine) -> bool) -> 
         }
         is_smaller |= attempt(&mut machine, &|m| m.registers.a = 0);
         is_smaller |= attempt(&mut machine, &|m| m.registers.dbr.address = 0);
+        is_smaller |= attempt(&mut machine, &|m| m.registers.fault_switch = 0);
+        is_smaller |= attempt(&mut machine, &|m| m.registers.save_segment = 0);
+        is_smaller |= attempt(&mut machine, &|m| m.registers.handler_segment = 0);
         for pr in 0..8 {
             is_smaller |= attempt(&mut machine, &|m| {
                 m.registers.pr[pr] = Pointer { ring: m.registers.ipr.ring, ..Pointer::default() }

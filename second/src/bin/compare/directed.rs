@@ -4,13 +4,16 @@
 use crate::compare::{Comparer, Difference, Machine, Outcome};
 use crate::describe;
 use crate::random::Random;
+use second::image::ME_LIMIT;
 use second::opcodes::*;
-use second::{pointers, Dbr, Descriptor, Fault, Image, Instruction, Pointer, PointerWord, Registers, Reply};
+use second::{delivery, pointers, Dbr, Descriptor, Fault, Image, Instruction, Pointer, PointerWord, Registers, Reply};
 
 /// The instruction's segment: words 16 to 23, all rings.
 const CODE: u16 = 1;
 /// The segment in question: words 32 to 39.
 const TARGET: u16 = 2;
+/// In the grid, the save segment: words 24 to 36.
+const SAVE: u16 = 3;
 
 pub fn pointer(ring: u8, segno: u16, wordno: u16) -> Pointer {
     Pointer { ring, segno, wordno }
@@ -236,7 +239,7 @@ fn refusals(cases: &mut Cases) {
 
 fn fetches(cases: &mut Cases) {
     // 32 and 33, every opcode.
-    let table = [1, 2, 3, 4, 5, 6, 7, 8, 9, 10, 16, 17, 24, 25, 26, 32, 33, 40, 41];
+    let table = [1, 2, 3, 4, 5, 6, 7, 8, 9, 10, 16, 17, 24, 25, 26, 32, 33, 40, 41, 42];
     for opcode in 0..=255 {
         for ring in [0, 1, 7] {
             let machine = base(ring).with(|m| m.put(16, by_pr2(opcode)));
@@ -246,6 +249,9 @@ fn fetches(cases: &mut Cases) {
                 fault(33, 0, pointer(ring, CODE, 0))
             } else if opcode == HLT {
                 halted(1)
+            } else if opcode == RCU {
+                // Eight words hold no frame.
+                fault(15, 0, pointer(ring, TARGET, 0))
             } else if (opcode == STA || opcode == SPP || opcode == AOS) && ring > 0 {
                 fault(23, 0, pointer(ring, TARGET, 0))
             } else {
@@ -255,7 +261,7 @@ fn fetches(cases: &mut Cases) {
         }
     }
     // 33 comes before the address is formed; HLT and LDI form none.
-    for opcode in [LDBR, HLT] {
+    for opcode in [LDBR, HLT, RCU] {
         let machine = base(1).with(|m| {
             m.put(16, Instruction { offset: 9, ..indirect(opcode) });
             m.registers.pr[2].segno = 9;
@@ -282,7 +288,7 @@ fn fetches(cases: &mut Cases) {
 }
 
 fn chains(cases: &mut Cases) {
-    for opcode in [LDA, STA, CNT, AOS, EAP, SPP, TRA, TZE, CALL, RETURN, LDBR] {
+    for opcode in [LDA, STA, CNT, AOS, EAP, SPP, TRA, TZE, CALL, RETURN, LDBR, RCU] {
         for chain in [0_u16, 1, 2, 63, 64, 65, 66] {
             let machine = base(0).with(|m| {
                 m.memory.resize(256, 0);
@@ -316,7 +322,7 @@ fn chains(cases: &mut Cases) {
             m.point(32, pointer(5, TARGET, 0), true);
         });
         let (number, at, read) = match opcode {
-            LDBR => (33, pointer(2, CODE, 0), 0),
+            LDBR | RCU => (33, pointer(2, CODE, 0), 0),
             _ => (31, pointer(5, TARGET, 0), 64),
         };
         cases.add_reading(format!("opcode {opcode}, a pointer to itself"), machine, fault(number, 0, at), read);
@@ -578,24 +584,53 @@ pub fn cases(comparer: &mut Comparer) -> Result<usize, Box<Failure>> {
     Ok(count)
 }
 
-/// The library's directed machines for pointer words, as machines and as images; answers how many they are.
+/// The library's directed machines for pointer words; answers how many they are.
 pub fn pointer_words(comparer: &mut Comparer) -> Result<usize, Box<Failure>> {
     let cases = pointers::cases();
     let count = cases.len();
     for case in cases {
-        let Image { registers, memory, budget } = case.machine.clone();
-        let machine = Machine { registers, memory, budget };
-        let expected = Outcome { run: case.reply(), last_step: last_step(&case) };
-        let differs = match comparer.machine(&machine) {
-            Ok(outcome) if outcome == expected => listed(comparer, &machine, &case.text()).err(),
-            Ok(outcome) => Some(Difference(format!("both answer {outcome:?}, the papers {expected:?}"))),
-            Err(difference) => Some(difference),
-        };
-        if let Some(difference) = differs {
-            return Err(Box::new((case.name, machine, difference)));
+        by_hand(comparer, &case)?;
+    }
+    Ok(count)
+}
+
+/// The library's directed machines for delivered faults and opcode 42, with what they leave; answers how many they are.
+pub fn deliveries(comparer: &mut Comparer) -> Result<usize, Box<Failure>> {
+    let cases = delivery::cases();
+    let count = cases.len();
+    for delivery::Case { run: case, registers: after, memory: memory_after } in cases {
+        by_hand(comparer, &case)?;
+        // The comparison has shown that both leave the same.
+        let Image { mut registers, mut memory, budget } = case.machine.clone();
+        second::run(&mut registers, &mut memory, budget);
+        if (registers, &memory) != (after, &memory_after) {
+            let text = format!("both leave {registers:?}, the papers {after:?}; or memory is different");
+            return Err(Box::new((case.name, machine(case.machine), Difference(text))));
         }
     }
     Ok(count)
+}
+
+fn machine(Image { registers, memory, budget }: Image) -> Machine {
+    Machine { registers, memory, budget }
+}
+
+/// One of them, as a machine and, where there is one, as an image.
+fn by_hand(comparer: &mut Comparer, case: &pointers::Case) -> Result<(), Box<Failure>> {
+    let machine = machine(case.machine.clone());
+    let expected = Outcome { run: case.reply(), last_step: last_step(case) };
+    let differs = match comparer.machine(&machine) {
+        Ok(outcome) if outcome != expected => {
+            Some(Difference(format!("both answer {outcome:?}, the papers {expected:?}")))
+        }
+        Ok(_) if machine.memory.len() > ME_LIMIT as usize => None,
+        Ok(_) => listed(comparer, &machine, &case.text()).err(),
+        Err(difference) => Some(difference),
+    };
+    match differs {
+        Some(difference) => Err(Box::new((case.name.clone(), machine, difference))),
+        None => Ok(()),
+    }
 }
 
 /// What the last of the steps answers that the budget allows.
@@ -620,7 +655,7 @@ fn listed(comparer: &mut Comparer, machine: &Machine, text: &str) -> Result<(), 
 }
 
 /// The uses of a segment, each with its questions in order.
-pub const USES: [(&str, &[u8]); 9] = [
+pub const USES: [(&str, &[u8]); 10] = [
     ("fetch", &[11, 12, 13, 14, 15, 21, 32, 33]),
     ("pointer word", &[31, 11, 12, 13, 14, 15, 22]),
     ("read", &[11, 12, 13, 14, 15, 22]),
@@ -630,14 +665,15 @@ pub const USES: [(&str, &[u8]); 9] = [
     ("RETURN", &[11, 12, 13, 14, 15, 25]),
     ("CALL", &[11, 12, 13, 14, 15, 26, 27, 28, 29, 30]),
     ("LDBR", &[11, 12, 13, 14, 15, 22, 34]),
+    ("RCU", &[11, 12, 13, 14, 15, 22, 34, 52]),
 ];
 
 /// How often two questions of a use were both no, by use and places in its order.
-pub struct Pairs([[[u64; 10]; 10]; 9]);
+pub struct Pairs([[[u64; 10]; 10]; 10]);
 
 impl Pairs {
     pub fn new() -> Pairs {
-        Pairs([[[0; 10]; 10]; 9])
+        Pairs([[[0; 10]; 10]; 10])
     }
 
     fn count(&mut self, which: usize, no: &[bool; 10]) {
@@ -671,8 +707,8 @@ impl Pairs {
     }
 }
 
-/// For each use: all R1, R2, R3, all rings of IPR and TPR, all of R, W, E; and, drawn, V, the boundaries of 11, 14, 15,
-/// 27, 31 to 34. What is no is worked out apart from the order, and the first in the order is expected.
+/// For each use: all R1, R2, R3, all rings of IPR and TPR, all of R, W, E; and, drawn, the switch, V, the boundaries of
+/// 11, 14, 15, 27, 31 to 34, 52. What is no is worked out apart from the order, and the first in the order is expected.
 pub fn grid(comparer: &mut Comparer, random: &mut Random, pairs: &mut Pairs) -> Result<u64, Box<Failure>> {
     let mut machine = base(0);
     let mut count = 0;
@@ -680,7 +716,7 @@ pub fn grid(comparer: &mut Comparer, random: &mut Random, pairs: &mut Pairs) -> 
         for rings in 0..512_u32 {
             let r = [(rings >> 6) as u8, (rings >> 3 & 7) as u8, (rings & 7) as u8];
             for ipr_ring in 0..8 {
-                if *name == "LDBR" && ipr_ring > 0 {
+                if matches!(*name, "LDBR" | "RCU") && ipr_ring > 0 {
                     continue;
                 }
                 for tpr_ring in ipr_ring..8 {
@@ -699,7 +735,7 @@ pub fn grid(comparer: &mut Comparer, random: &mut Random, pairs: &mut Pairs) -> 
                         // A pointer word that passes is read as well.
                         let read = chain + u64::from(*name == "pointer word" && first.is_none());
                         let got = match comparer.machine(&machine) {
-                            Ok(outcome) => seen(outcome),
+                            Ok(outcome) => seen(&machine, outcome),
                             Err(difference) => return Err(Box::new((format!("grid, {name}"), machine, difference))),
                         };
                         if got != (first.map(|number| (number, expected)), read) {
@@ -716,13 +752,17 @@ pub fn grid(comparer: &mut Comparer, random: &mut Random, pairs: &mut Pairs) -> 
     Ok(count)
 }
 
-/// The fault of a machine of one step, and the step's pointer words.
-fn seen(Outcome { run, last_step }: Outcome) -> (Option<(u8, Pointer)>, u64) {
+/// The fault of a machine of one step, delivered or not, and the step's pointer words.
+fn seen(machine: &Machine, Outcome { run, last_step }: Outcome) -> (Option<(u8, Pointer)>, u64) {
     let fault = match run {
-        Reply::Fault { fault, .. } => Some((fault.number, fault.at)),
+        Reply::Fault { fault, .. } => Some(fault),
+        Reply::Spent { .. } if machine.registers.fault_switch == 1 => {
+            let Machine { mut registers, mut memory, .. } = machine.clone();
+            second::step_and_fault(&mut registers, &mut memory).1
+        }
         _ => None,
     };
-    (fault, last_step.map_or(0, Reply::pointer_words))
+    (fault.map(|fault| (fault.number, fault.at)), last_step.map_or(0, Reply::pointer_words))
 }
 
 /// How many pointer words lead to the use in question: mostly none. To the 65th pointer word 64 lead.
@@ -754,13 +794,16 @@ fn shape(
     let no_27 = random.chance(300);
     let no_31 = name == "pointer word" && random.chance(100);
     let no_34 = random.chance(300);
+    let no_52 = random.chance(300);
     let (fr, fw, fe) = (flags & 1 != 0, flags & 2 != 0, flags & 4 != 0);
     // The segment in question is segment 7, the last or the one after the last, at the memory's end.
     let is_pointer = name == "pointer word";
     let chain = chain_before(random, name, no_31);
     let words = if chain > 0 { 160 } else { 64 };
-    let length = random.between(1, 8) as u16;
-    let wordno = if no_15 { length } else { length - 1 };
+    // Opcode 42 uses thirteen words.
+    let used = if name == "RCU" { 13 } else { 1 };
+    let length = used - 1 + random.between(1, 8) as u16;
+    let wordno = if no_15 { length - used + 1 } else { length - used };
     let target = Descriptor {
         address: words - u32::from(length) + u32::from(no_14),
         length,
@@ -781,14 +824,18 @@ fn shape(
         dbr: Dbr { address: 0, length: if no_11 { 7 } else { 8 } },
         ipr: pointer(ipr_ring, CODE, 0),
         pr: [pointer(7, 9, 9); 8],
+        fault_switch: u16::from(random.chance(500)),
+        save_segment: SAVE,
+        handler_segment: random.below(4096) as u16,
     };
     machine.describe(CODE, segment(16, 8, [0, 7, 7]));
+    machine.describe(SAVE, segment(24, 13, [0, 0, 0]));
     machine.describe(7, target);
     let tpr = pointer(tpr_ring, 7, wordno);
     machine.registers.pr[2] = tpr;
     let opcode = match name {
-        "fetch" if ipr_ring == 0 => random.pick(&[LDI, HLT, 0, 11, 42, 255]),
-        "fetch" => random.pick(&[LDI, HLT, LDBR, 0, 11, 42, 255]),
+        "fetch" if ipr_ring == 0 => random.pick(&[LDI, HLT, 0, 11, 43, 255]),
+        "fetch" => random.pick(&[LDI, HLT, LDBR, RCU, 0, 11, 43, 255]),
         // With A 1, neither transfer is taken: nothing follows the pointer word.
         "pointer word" => random.pick(&[EAP, TZE, TMI]),
         "read" => random.pick(&[1, 3, 4, 5, 6, 7, 8]),
@@ -797,7 +844,8 @@ fn shape(
         "transfer" => random.pick(&[TRA, TZE, TMI]),
         "RETURN" => RETURN,
         "CALL" => CALL,
-        _ => LDBR,
+        "LDBR" => LDBR,
+        _ => RCU,
     };
     match (name, opcode) {
         ("pointer word", _) => machine.registers.a = 1,
@@ -819,10 +867,11 @@ fn shape(
     let i = is_pointer || chain > 0 || name == "fetch" && random.chance(500);
     let instruction = Instruction { i, reg: random.below(8) as u8, ..by_pr2(opcode) };
     let in_question = target.address as usize + usize::from(wordno);
+    let dbr = u64::from(words - 8 + u32::from(no_34)) | 8 << 24 | random.next() << 37;
     let word = match name {
         "fetch" => instruction.to_word(),
         "pointer word" => random.next() & !(1 << 31),
-        "LDBR" => u64::from(words - 8 + u32::from(no_34)) | 8 << 24 | random.next() << 37,
+        "LDBR" => dbr,
         _ => random.next(),
     };
     if name == "fetch" {
@@ -832,6 +881,13 @@ fn shape(
     }
     if !no_14 && !no_15 {
         machine.memory[in_question] = word;
+    }
+    if name == "RCU" {
+        // What there is of the frame, number and address being nobody's concern.
+        let frame = frame(random, dbr, no_52);
+        let behind = &mut machine.memory[in_question..];
+        let words = behind.len().min(13);
+        behind[..words].copy_from_slice(&frame[..words]);
     }
     let new_ring = tpr_ring.min(r2);
     let no = move |question: u8| match question {
@@ -850,9 +906,27 @@ fn shape(
         29 => tpr_ring < r1,
         30 => new_ring > ipr_ring,
         31 => no_31,
-        32 => matches!(opcode, 0 | 11 | 42 | 255),
-        33 => matches!(opcode, LDBR | HLT) && ipr_ring > 0,
-        _ => no_34,
+        32 => matches!(opcode, 0 | 11 | 43 | 255),
+        33 => matches!(opcode, LDBR | HLT | RCU) && ipr_ring > 0,
+        34 => no_34,
+        _ => no_52,
     };
     (tpr, u64::from(chain), no)
+}
+
+/// A frame with this DBR; IPR's ring is at most that of the PRs, or above that of one.
+fn frame(random: &mut Random, dbr: u64, no_52: bool) -> [u64; 13] {
+    let mut frame = [(); 13].map(|_| random.next());
+    frame[3] = dbr;
+    let ring = random.between(usize::from(no_52), 7) as u64;
+    let lower = random.below(8);
+    for (place, word) in frame[4..].iter_mut().enumerate() {
+        let pr_ring = match place {
+            0 => ring,
+            pr if no_52 && pr - 1 == lower => random.below(ring as usize) as u64,
+            _ => random.between(ring as usize, 7) as u64,
+        };
+        *word = *word & !(7 << 28) | pr_ring << 28;
+    }
+    frame
 }

@@ -2,7 +2,8 @@
 
 use crate::compare::Machine;
 use crate::random::Random;
-use second::{Dbr, Descriptor, Instruction, Opcode, Pointer, PointerWord, Reply};
+use second::opcodes::RCU;
+use second::{frame, Dbr, Descriptor, Fault, Instruction, Opcode, Pointer, PointerWord, Registers, Reply};
 
 pub struct Generator {
     current: Vec<u64>,
@@ -10,7 +11,7 @@ pub struct Generator {
 }
 
 /// Opcodes and how often they are drawn.
-const WEIGHTS: [(u8, usize); 19] = [
+const WEIGHTS: [(u8, usize); 20] = [
     (1, 6),
     (2, 6),
     (3, 4),
@@ -30,11 +31,12 @@ const WEIGHTS: [(u8, usize); 19] = [
     (33, 9),
     (40, 3),
     (41, 1),
+    (42, 4),
 ];
 
 /// Each opcode as often as its weight.
-const DRAW: [u8; 94] = {
-    let mut draw = [0; 94];
+const DRAW: [u8; 98] = {
+    let mut draw = [0; 98];
     let mut filled = 0;
     let mut entry = 0;
     while entry < WEIGHTS.len() {
@@ -151,6 +153,7 @@ impl Generator {
                 pr.segno = (draw >> 40 & 0xfff) as u16;
             }
         }
+        fault_program(random, machine, segments);
         if words > 120 && random.chance(50) {
             chain(random, machine);
         }
@@ -172,30 +175,24 @@ impl Generator {
         let mut registers = machine.registers;
         let mut since_new = 0;
         for count in 0..budget {
-            if second::machine::fetch(&registers, &self.current).is_err() {
-                break;
-            }
-            let dbr = registers.dbr;
-            let table = dbr.address as usize;
-            let code = Descriptor::from_word(self.current[table + usize::from(registers.ipr.segno)]);
-            let address = code.address as usize + usize::from(registers.ipr.wordno);
-            let is_new = !self.decided[address];
-            self.decided[address] = true;
-            if !is_new {
-                if !matches!(second::step(&mut registers, &mut self.current), Reply::Spent { .. }) {
+            // Code that is there already, or a fetch that faults, which may be delivered.
+            let Some((address, is_last_word)) = self.undecided(&registers) else {
+                let (reply, fault) = second::step_and_fault(&mut registers, &mut self.current);
+                if !matches!(reply, Reply::Spent { .. }) {
                     break;
                 }
                 since_new += 1;
-                if since_new > 300 && random.chance(2) {
+                if since_new > 300 && random.chance(2) || fault.is_some() && random.chance(100) {
                     machine.budget = count + 1 + random.below(3) as u32;
                     break;
                 }
                 continue;
-            }
+            };
+            self.decided[address] = true;
             since_new = 0;
             let is_kept_anyway = random.chance(20);
+            let may_fault = registers.fault_switch == 1 && random.chance(80);
             let mut is_done = false;
-            let is_last_word = registers.ipr.wordno + 1 >= code.length;
             for _ in 0..20 {
                 let instruction = self.sensible(random, &registers);
                 let halts = instruction.opcode == 41 && registers.ipr.ring == 0;
@@ -204,8 +201,18 @@ impl Generator {
                 }
                 self.current[address] = instruction.to_word();
                 machine.memory[address] = instruction.to_word();
+                if instruction.opcode == RCU && registers.ipr.ring == 0 {
+                    self.plant(random, machine, &registers, &instruction);
+                }
                 let before = registers;
+                // A fault that isn't delivered leaves everything as it was.
+                registers.fault_switch = 0;
                 is_done = matches!(second::step(&mut registers, &mut self.current), Reply::Spent { .. });
+                registers.fault_switch = before.fault_switch;
+                if !is_done && !halts && (is_kept_anyway || may_fault) {
+                    is_done = matches!(second::step(&mut registers, &mut self.current), Reply::Spent { .. });
+                    break;
+                }
                 if is_kept_anyway || halts {
                     break;
                 }
@@ -220,28 +227,123 @@ impl Generator {
                 }
             }
             if !is_done {
+                // The handler would go through the same again and again.
+                if registers.fault_switch == 1 {
+                    machine.budget = budget.min(count + 1 + random.below(20) as u32);
+                }
                 break;
             }
         }
     }
 
+    /// The address of IPR's word, if it can be fetched and wasn't drawn yet, and whether it is its segment's last.
+    fn undecided(&self, registers: &Registers) -> Option<(usize, bool)> {
+        second::machine::fetch(registers, &self.current).ok()?;
+        let word = self.current[registers.dbr.address as usize + usize::from(registers.ipr.segno)];
+        let code = Descriptor::from_word(word);
+        let address = code.address as usize + usize::from(registers.ipr.wordno);
+        (!self.decided[address]).then_some((address, registers.ipr.wordno + 1 >= code.length))
+    }
+
     /// An instruction that has a chance to complete.
-    fn sensible(&self, random: &mut Random, registers: &second::Registers) -> Instruction {
+    fn sensible(&self, random: &mut Random, registers: &Registers) -> Instruction {
         let segments = usize::from(registers.dbr.length).max(1);
         let mut instruction = candidate(random, segments);
+        let words = if instruction.opcode == RCU { frame::WORDS } else { 1 };
+        if instruction.opcode == RCU && random.chance(900) {
+            let roomy = |pr: &usize| self.length(registers, &registers.pr[*pr]) >= frame::WORDS;
+            let roomy: Vec<usize> = (0..8).filter(roomy).collect();
+            instruction.p = !roomy.is_empty();
+            if instruction.p {
+                instruction.prnum = random.pick(&roomy) as u8;
+            }
+        }
         if random.chance(850) {
             // An offset to a word of the segment.
             let from = if instruction.p { registers.pr[usize::from(instruction.prnum)] } else { registers.ipr };
             if from.segno < registers.dbr.length {
-                let word = self.current[registers.dbr.address as usize + usize::from(from.segno)];
-                let length = Descriptor::from_word(word).length;
+                let length = self.length(registers, &from);
                 let one_more = usize::from(random.chance(5));
-                let to = random.below(usize::from(length.max(1)) + one_more) as u16;
+                let to = random.below(length.saturating_sub(words - 1).max(1) + one_more) as u16;
                 instruction.offset = to.wrapping_sub(from.wordno);
             }
         }
         instruction
     }
+
+    /// LENGTH of the segment of a pointer, 0 if it has no descriptor.
+    fn length(&self, registers: &Registers, pointer: &Pointer) -> usize {
+        if pointer.segno >= registers.dbr.length {
+            return 0;
+        }
+        let word = self.current[registers.dbr.address as usize + usize::from(pointer.segno)];
+        usize::from(Descriptor::from_word(word).length)
+    }
+
+    /// Puts a frame where opcode 42 will find it, if it will find thirteen words, and none of them was performed.
+    fn plant(&mut self, random: &mut Random, machine: &mut Machine, registers: &Registers, instruction: &Instruction) {
+        let Ok(tpr) = second::machine::form_address(registers, &self.current, instruction).tpr else { return };
+        let length = self.length(registers, &tpr);
+        if usize::from(tpr.wordno) + frame::WORDS > length || random.chance(100) {
+            return;
+        }
+        let word = self.current[registers.dbr.address as usize + usize::from(tpr.segno)];
+        let first = Descriptor::from_word(word).address as usize + usize::from(tpr.wordno);
+        let places = first..first + frame::WORDS;
+        if places.end > self.current.len() || self.decided[places.clone()].contains(&true) {
+            return;
+        }
+        let frame = some_frame(random, registers, &self.current);
+        self.current[places.clone()].copy_from_slice(&frame);
+        machine.memory[places].copy_from_slice(&frame);
+    }
+}
+
+/// A frame that is mostly whole, with the DBR there is, and mostly leads to where its ring may execute.
+fn some_frame(random: &mut Random, registers: &Registers, memory: &[u64]) -> [u64; frame::WORDS] {
+    let Dbr { address, length } = registers.dbr;
+    let table = &memory[address as usize..][..usize::from(length)];
+    let executable = |segno: &usize| {
+        let segment = Descriptor::from_word(table[*segno]);
+        segment.v && segment.e && segment.r1 <= segment.r2 && segment.length > 0
+    };
+    let fit: Vec<usize> = (0..table.len().min(24)).filter(executable).collect();
+    let mut saved = Registers { a: data(random), dbr: registers.dbr, ..Registers::default() };
+    saved.ipr = Pointer { ring: random.below(8) as u8, segno: random.below(30) as u16, wordno: random.below(8) as u16 };
+    if !fit.is_empty() && random.chance(950) {
+        let segno = random.pick(&fit);
+        let segment = Descriptor::from_word(table[segno]);
+        saved.ipr.segno = segno as u16;
+        saved.ipr.wordno = random.below(usize::from(segment.length)) as u16;
+        saved.ipr.ring = random.between(usize::from(segment.r1), usize::from(segment.r2)) as u8;
+    }
+    for pr in &mut saved.pr {
+        let ring = saved.ipr.ring.max(if random.chance(300) { random.below(8) as u8 } else { 0 });
+        *pr = Pointer {
+            ring,
+            segno: random.below(usize::from(length).clamp(1, 24)) as u16,
+            wordno: random.below(16) as u16,
+        };
+    }
+    match random.below(100) {
+        0..=3 => saved.pr[random.below(8)].ring = saved.ipr.ring.saturating_sub(1),
+        4..=6 => saved.dbr.address = memory.len() as u32 - u32::from(length) + random.below(2) as u32,
+        7 => saved.dbr.length = random.pick(&[0, 1, 4096, 4097]),
+        8 => saved.dbr = Dbr { address: random.below(memory.len()) as u32, length: random.below(9) as u16 },
+        _ => {}
+    }
+    let fault = Fault { number: random.next() as u8, at: saved.ipr };
+    let mut frame = frame::of_fault(&fault, &saved);
+    // What is ignored.
+    if random.chance(500) {
+        frame[0] = random.next();
+        frame[1] = random.next();
+        frame[3] |= random.next() << 37;
+        for word in &mut frame[4..] {
+            *word |= random.next() << 31;
+        }
+    }
+    frame
 }
 
 fn candidate(random: &mut Random, segments: usize) -> Instruction {
@@ -304,6 +406,59 @@ fn descriptor(random: &mut Random, words: usize, table_end: usize) -> Descriptor
     }
 }
 
+/// The switch, on in half of the machines, with a save segment that mostly will do and a handler's segment that ring 0 may
+/// mostly execute.
+fn fault_program(random: &mut Random, machine: &mut Machine, segments: usize) {
+    let words = machine.memory.len();
+    let registers = &mut machine.registers;
+    let table = registers.dbr.address as usize;
+    registers.fault_switch = u16::from(random.chance(500));
+    let other = |random: &mut Random, than: u16| match random.below(segments) {
+        segno if segno == usize::from(than) => random.below(segments) as u16,
+        segno => segno as u16,
+    };
+    registers.save_segment = other(random, registers.ipr.segno);
+    registers.handler_segment = other(random, registers.save_segment);
+    if registers.fault_switch == 0 {
+        return;
+    }
+    let handler = &mut machine.memory[table + usize::from(registers.handler_segment)];
+    if random.chance(930) {
+        *handler = Descriptor { e: true, r1: 0, ..Descriptor::from_word(*handler) }.to_word();
+    }
+    let length = random.between(13, 20).min(words);
+    let behind = table + segments;
+    let first = if behind + length <= words && random.chance(900) { behind } else { 0 };
+    let place = &mut machine.memory[table + usize::from(registers.save_segment)];
+    let drawn = Descriptor::from_word(*place);
+    let fit = Descriptor {
+        address: random.between(first, words - length) as u32,
+        length: length as u16,
+        r2: drawn.r2.max(drawn.r1),
+        r3: drawn.r3.max(drawn.r2).max(drawn.r1),
+        w: true,
+        v: true,
+        ..drawn
+    };
+    let save = match random.below(40) {
+        0 => Descriptor { v: false, ..fit },
+        1 => Descriptor { r1: fit.r2 + 1 & 7, ..fit },
+        2 => Descriptor { address: (words - length + 1) as u32, ..fit },
+        3 => Descriptor { length: random.between(0, 12) as u16, ..fit },
+        4 => Descriptor { w: false, ..fit },
+        5 => drawn,
+        _ => fit,
+    };
+    *place = save.to_word();
+    match random.below(60) {
+        0 => registers.save_segment = registers.dbr.length.min(4095),
+        1 => registers.save_segment = random.below(4096) as u16,
+        2 => registers.handler_segment = registers.dbr.length.min(4095),
+        3 => registers.handler_segment = random.below(4096) as u16,
+        _ => {}
+    }
+}
+
 /// A segment with about 64 pointer words, each pointing to the next, and a PR to it. Some chains go from one segment to
 /// another over the same words and back, and some lead elsewhere from one of their words.
 fn chain(random: &mut Random, machine: &mut Machine) {
@@ -362,7 +517,7 @@ fn spoil(random: &mut Random, machine: &mut Machine) {
     let words = machine.memory.len();
     let registers = &mut machine.registers;
     let pr = random.below(8);
-    match random.below(9) {
+    match random.below(12) {
         0 => registers.pr[pr].ring = random.below(256) as u8,
         1 => registers.pr[pr].segno = random.between(4094, 4098) as u16,
         2 => registers.ipr.ring = random.below(256) as u8,
@@ -371,6 +526,9 @@ fn spoil(random: &mut Random, machine: &mut Machine) {
         5 => registers.dbr.length = random.pick(&[4095, 4096, 4097, 65_535]),
         6 => registers.dbr.address = (words - usize::from(registers.dbr.length)) as u32 + random.below(3) as u32,
         7 => registers.pr[pr].ring = registers.ipr.ring.saturating_sub(1),
+        8 => registers.fault_switch = random.pick(&[0, 1, 2, 3, 255, 256, 257, 65_535]),
+        9 => registers.save_segment = random.between(4094, 4098) as u16,
+        10 => registers.handler_segment = random.between(4094, 4098) as u16,
         _ => registers.ipr.wordno = 65_535,
     }
 }
@@ -389,6 +547,7 @@ pub fn budget(random: &mut Random) -> u32 {
 
 /// Every opcode of the table has its weight.
 const _: () = {
+    assert!(WEIGHTS.len() == Opcode::TABLE.len());
     let mut entry = 0;
     while entry < WEIGHTS.len() {
         assert!(WEIGHTS[entry].0 == Opcode::TABLE[entry].0);

@@ -1,9 +1,9 @@
 //! Images for the bench's call: whole, damaged, and every short sequence of records.
 
 use crate::compare::{Comparer, Difference, Machine};
-use crate::describe::{self, pointer_bytes, st};
+use crate::describe::{self, pointer_bytes, st, stored_st};
 use crate::random::Random;
-use second::{Dbr, Descriptor, Instruction, Pointer, PointerWord};
+use second::{Dbr, Descriptor, Instruction, Pointer, PointerWord, Rules};
 
 /// An image, the buffer's length, and what differs.
 pub type Failure = (Vec<u8>, usize, Difference);
@@ -32,8 +32,10 @@ pub fn rn(budget: u32) -> Vec<u8> {
     record(b"RN", &[&budget.to_be_bytes()])
 }
 
-/// A machine's records: ME, ST somewhere, its words in some order, RN. In some images addresses come twice.
+/// A machine's records: ME, ST somewhere, its words in some order, RN. In some images addresses come twice, and some are
+/// as they were stored.
 pub fn records(random: &mut Random, machine: &Machine) -> Vec<Vec<u8>> {
+    let rules = if random.chance(300) { Rules::Stored } else { Rules::Today };
     let mut words = Vec::new();
     for (address, word) in machine.memory.iter().enumerate() {
         if *word != 0 || random.chance(10) {
@@ -43,7 +45,7 @@ pub fn records(random: &mut Random, machine: &Machine) -> Vec<Vec<u8>> {
     if random.chance(300) {
         shuffle(random, &mut words);
     }
-    if random.chance(150) {
+    if random.chance(if rules == Rules::Today { 100 } else { 400 }) {
         // Records before those with the words that count, so that the machine stays what the stored image means.
         for _ in 0..random.between(1, 8).min(words.len()) {
             let place = random.below(words.len());
@@ -52,7 +54,11 @@ pub fn records(random: &mut Random, machine: &Machine) -> Vec<Vec<u8>> {
             words.insert(random.below(place + 1), again);
         }
     }
-    words.insert(random.below(words.len() + 1), st(&machine.registers));
+    let st = match rules {
+        Rules::Today => st(&machine.registers),
+        Rules::Stored => stored_st(&machine.registers),
+    };
+    words.insert(random.below(words.len() + 1), st);
     words.insert(0, me(machine.memory.len() as u32));
     words.push(rn(machine.budget));
     words
@@ -118,8 +124,8 @@ pub fn damaged(comparer: &mut Comparer, random: &mut Random, machine: &Machine) 
             }
         }
         2 => {
-            // Among the first 70 bytes: ME, and mostly ST.
-            let place = random.below(image.len().clamp(1, 70));
+            // Among the first 72 bytes: ME, and mostly ST.
+            let place = random.below(image.len().clamp(1, 72));
             if let Some(byte) = image.get_mut(place) {
                 *byte ^= 1 << random.below(8);
             }
@@ -174,7 +180,7 @@ pub fn all_damages(comparer: &mut Comparer, random: &mut Random, machine: &Machi
     Ok(comparer.images - before)
 }
 
-/// ST with this DBR, IPR in segment 1 and the PRs nowhere.
+/// ST with this DBR, IPR in segment 1 and the PRs nowhere; the switch off.
 pub fn state(address: u32, length: u16, ipr: u8, pr: u8) -> Vec<u8> {
     let mut record = b"ST".to_vec();
     record.extend(7_u64.to_be_bytes());
@@ -183,6 +189,22 @@ pub fn state(address: u32, length: u16, ipr: u8, pr: u8) -> Vec<u8> {
     record.extend(pointer_bytes(Pointer { ring: ipr, segno: 1, wordno: 0 }));
     for _ in 0..8 {
         record.extend(pointer_bytes(Pointer { ring: pr, segno: 4095, wordno: 65_535 }));
+    }
+    record.extend([0; 5]);
+    record
+}
+
+/// ST with its last five bytes these.
+fn with_fields(mut st: Vec<u8>, fields: [u8; 5]) -> Vec<u8> {
+    st.truncate(61);
+    st.extend(fields);
+    st
+}
+
+/// A record as stored images have it: ST without its last five bytes.
+pub fn stored(mut record: Vec<u8>) -> Vec<u8> {
+    if record.starts_with(b"ST") {
+        record.truncate(61);
     }
     record
 }
@@ -198,10 +220,11 @@ pub fn sequences(comparer: &mut Comparer, random: &mut Random, depth: usize) -> 
         me(8193),
         me(0),
         state(0, 2, 3, 4),
-        state(1 << 24, 2, 3, 4), // 2
-        state(0, 2, 4, 3),       // 3
-        state(0, 9000, 3, 4),    // 4
-        state(9000, 0, 8, 4),    // 2, then 4
+        with_fields(state(0, 2, 3, 4), [1, 0, 0, 0, 1]), // the save segment's V is off
+        state(1 << 24, 2, 3, 4),                         // 2
+        state(0, 2, 4, 3),                               // 3
+        state(0, 9000, 3, 4),                            // 4
+        with_fields(state(9000, 0, 3, 4), [2, 0, 0, 0, 0]), // 2, then 4
         wd(1, code.to_word()),
         wd(7, 10 << 24),
         wd(7, 9 << 24), // the same address
@@ -217,7 +240,14 @@ pub fn sequences(comparer: &mut Comparer, random: &mut Random, depth: usize) -> 
         b"WD\0\0\0\x01\0\0\0".to_vec(),
         b"RN\0\0\0".to_vec(),
     ];
-    every_sequence(comparer, random, &tokens, &mut Vec::new(), &[], depth)?;
+    // With one of the other kind among them: today's, and then as they were stored.
+    let today = [&tokens[..], &[stored(state(0, 2, 3, 4))]].concat();
+    let mut old: Vec<Vec<u8>> = tokens.into_iter().map(stored).collect();
+    old.dedup();
+    old.push(state(0, 2, 3, 4));
+    for tokens in [today, old] {
+        every_sequence(comparer, random, &tokens, &mut Vec::new(), &[], depth)?;
+    }
     Ok(comparer.images - before)
 }
 
@@ -335,9 +365,8 @@ pub fn shrink(comparer: &mut Comparer, image: Vec<u8>, length: usize) -> Vec<u8>
 
 /// Leaves out records while the image still fails, many at a time and then fewer.
 fn fewer_records(image: Vec<u8>, fails: &mut dyn FnMut(&[u8]) -> bool) -> Vec<u8> {
-    let mut records: Vec<&[u8]> = second::image::records(&image).map(|(_, bytes)| bytes).collect();
-    let whole: usize = records.iter().map(|record| record.len()).sum();
-    records.push(&image[whole..]);
+    let (_, mut records, behind) = describe::split(&image);
+    records.push(behind);
     let mut size = records.len();
     while size > 0 {
         let mut place = 0;

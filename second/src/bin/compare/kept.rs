@@ -16,7 +16,7 @@ pub enum Input {
 const WORDS: usize = 256;
 const TEXT: usize = 64 * 201 + 32;
 /// An ST record without its mark.
-const RECORD: usize = 59;
+const RECORD: usize = 64;
 
 /// Every input in a folder that is one, with its file's name, in the names' order.
 pub fn inputs(folder: &Path) -> io::Result<Vec<(String, Input)>> {
@@ -59,5 +59,8 @@ fn registers(record: &[u8; RECORD]) -> Registers {
         dbr: Dbr { address: number(&record[8..12]) as u32, length: number(&record[12..14]) as u16 },
         ipr: pointer(14),
         pr: std::array::from_fn(|k| pointer(19 + 5 * k)),
+        fault_switch: u16::from(record[59]),
+        save_segment: number(&record[60..62]) as u16,
+        handler_segment: number(&record[62..64]) as u16,
     }
 }

@@ -21,7 +21,10 @@ struct CRegisters {
     dbr_padding: u16,
     ipr: CPointer,
     prs: [CPointer; 8],
-    padding: u16,
+    fault_switch: u16,
+    save_segment: u16,
+    handler_segment: u16,
+    padding: [u16; 2],
 }
 
 /// The pointer of a reply, whose padding nobody reads.
@@ -43,9 +46,12 @@ struct CReply {
     pointer_words: u64,
 }
 
-const _: () = assert!(std::mem::size_of::<CRegisters>() == 72);
+const _: () = assert!(std::mem::size_of::<CRegisters>() == 80);
 const _: () = assert!(std::mem::align_of::<CRegisters>() == 8);
 const _: () = assert!(std::mem::offset_of!(CRegisters, prs) == 22);
+const _: () = assert!(std::mem::offset_of!(CRegisters, fault_switch) == 70);
+const _: () = assert!(std::mem::offset_of!(CRegisters, save_segment) == 72);
+const _: () = assert!(std::mem::offset_of!(CRegisters, handler_segment) == 74);
 const _: () = assert!(std::mem::size_of::<CReply>() == 32);
 const _: () = assert!(std::mem::offset_of!(CReply, pointer) == 12);
 const _: () = assert!(std::mem::offset_of!(CReply, pointer_words) == 24);
@@ -55,7 +61,7 @@ extern "C" {
     fn kuzhlemor_step(registers: *mut CRegisters, memory: *mut u64, words: usize) -> CReply;
     fn kuzhlemor_run(registers: *mut CRegisters, memory: *mut u64, words: usize, budget: u32) -> CReply;
     fn kuzhlemor_bench(image: *const u8, image_length: usize, text: *mut u8, text_length: usize) -> i64;
-    fn kuzhlemor_convert(image: *mut u8, image_length: usize) -> i64;
+    fn kuzhlemor_convert(image: *mut u8, length: usize) -> i64;
 }
 
 /// A reply as the library gives it; it may be one that no `Reply` is.
@@ -70,6 +76,7 @@ pub struct Answer {
 
 impl Answer {
     pub const SPENT: u32 = 1;
+    pub const FAULT: u32 = 3;
 
     /// What the header says for a reply: what a kind doesn't name is 0.
     pub fn of(reply: Reply) -> Answer {
@@ -129,7 +136,10 @@ impl Lent {
             dbr_padding: 0,
             ipr: pointer(registers.ipr),
             prs: registers.pr.map(pointer),
-            padding: 0,
+            fault_switch: registers.fault_switch,
+            save_segment: registers.save_segment,
+            handler_segment: registers.handler_segment,
+            padding: [0; 2],
         };
     }
 
@@ -141,7 +151,7 @@ impl Lent {
         let rest = self.padding.next();
         self.record.ipr.padding = rest as u8;
         self.record.dbr_padding = (rest >> 16) as u16;
-        self.record.padding = (rest >> 32) as u16;
+        self.record.padding = [(rest >> 32) as u16, (rest >> 48) as u16];
     }
 
     pub fn registers(&self) -> Registers {
@@ -151,6 +161,9 @@ impl Lent {
             dbr: Dbr { address: self.record.dbr_address, length: self.record.dbr_length },
             ipr: pointer(self.record.ipr),
             pr: self.record.prs.map(pointer),
+            fault_switch: self.record.fault_switch,
+            save_segment: self.record.save_segment,
+            handler_segment: self.record.handler_segment,
         }
     }
 
@@ -186,8 +199,8 @@ pub fn bench(image: &[u8], text: &mut [u8]) -> i64 {
     unsafe { kuzhlemor_bench(image.as_ptr(), image.len(), text.as_mut_ptr(), text.len()) }
 }
 
-/// The conversion of a stored image, in place.
-pub fn convert(image: &mut [u8]) -> i64 {
+/// The conversion of a stored image, in place: the last five bytes are room for what ST gains.
+pub fn convert(image_and_room: &mut [u8]) -> i64 {
     // SAFETY: a run of bytes, lent alone for the call.
-    unsafe { kuzhlemor_convert(image.as_mut_ptr(), image.len()) }
+    unsafe { kuzhlemor_convert(image_and_room.as_mut_ptr(), image_and_room.len()) }
 }

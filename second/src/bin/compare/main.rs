@@ -108,10 +108,13 @@ fn carry_out(plan: &Plan) -> Result<(), String> {
     let count = directed::pointer_words(&mut comparer).map_err(|failure| machine_differs(plan, *failure))?;
     clock.part(&format!("directed: {count} machines for pointer words, with the replies and texts that 02 gives"));
 
+    let count = directed::deliveries(&mut comparer).map_err(|failure| machine_differs(plan, *failure))?;
+    clock.part(&format!("directed: {count} machines for delivered faults and opcode 42, with all that 02 gives"));
+
     let count = repeats::directed(&mut comparer).map_err(|(name, (image, length, difference))| {
-        image_differs(plan, &mut Comparer::new(), name, image, length, difference)
+        image_differs(plan, &mut Comparer::new(), &name, image, length, difference)
     })?;
-    clock.part(&format!("directed: {count} images for 51 and the conversion, with the answers that 02 gives"));
+    clock.part(&format!("directed: {count} images for 51, ST and the conversion, with the answers that 02 gives"));
 
     kept_inputs(plan, &mut comparer, &mut clock)?;
 
@@ -146,13 +149,14 @@ fn carry_out(plan: &Plan) -> Result<(), String> {
         secrecy.pair(&mut random, &mut generator).map_err(|leak| leaks(plan, *leak))?;
     }
     clock.part(&format!(
-        "secrecy: {} pairs of machines, {} steps, {} words hidden; {} stretches end below ring n, {} with a fault; \
-         {} wrote a hidden word; {} read pointer words, {} faulted at or after some; {} pairs of listings; \
+        "secrecy: {} pairs of machines, {} steps, {} words hidden; {} stretches end below ring n, {} before a delivered \
+         fault, {} with a fault; {} wrote a hidden word; {} read pointer words, {} faulted at or after some; {} pairs of listings; \
          by n from 1: {:?}",
         secrecy.pairs,
         secrecy.steps,
         secrecy.hidden_words,
         secrecy.ended_below,
+        secrecy.ended_before_delivery,
         secrecy.faults,
         secrecy.wrote_hidden,
         secrecy.read_pointers,
@@ -304,7 +308,8 @@ fn image_differs(
         text += &format!("\nsecond refuses it: {number}");
     }
     text += &format!("\n{}", describe::records(&smaller));
-    if let Ok(second::Image { registers, memory, budget }) = second::read_stored_image(&smaller) {
+    let read = second::read_image(&smaller).or_else(|_| second::read_stored_image(&smaller));
+    if let Ok(second::Image { registers, memory, budget }) = read {
         text += &format!("\n{}", describe::describe(&Machine { registers, memory, budget }));
     }
     write_out(&format!("failing-{}", plan.seed), &[("", smaller)], text)

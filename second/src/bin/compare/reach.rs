@@ -4,13 +4,16 @@ use std::collections::BTreeMap;
 
 use crate::compare::Machine;
 use second::image::{self, Record};
-use second::{Fault, Opcode, Pointer, Registers, Reply};
+use second::opcodes::RCU;
+use second::{Fault, Opcode, Pointer, Registers, Reply, Rules};
 
 /// The questions of a machine, and those of an image: a memory of at most 8,192 words has no 1.
-pub const QUESTIONS: [u8; 23] =
-    [1, 2, 3, 4, 11, 12, 13, 14, 15, 21, 22, 23, 24, 25, 26, 27, 28, 29, 30, 31, 32, 33, 34];
-pub const IMAGE_QUESTIONS: [u8; 28] =
-    [41, 42, 43, 44, 51, 2, 3, 4, 45, 11, 12, 13, 14, 15, 21, 22, 23, 24, 25, 26, 27, 28, 29, 30, 31, 32, 33, 34];
+pub const QUESTIONS: [u8; 24] =
+    [1, 2, 3, 4, 11, 12, 13, 14, 15, 21, 22, 23, 24, 25, 26, 27, 28, 29, 30, 31, 32, 33, 34, 52];
+pub const IMAGE_QUESTIONS: [u8; 29] =
+    [41, 42, 43, 44, 51, 2, 3, 4, 45, 11, 12, 13, 14, 15, 21, 22, 23, 24, 25, 26, 27, 28, 29, 30, 31, 32, 33, 34, 52];
+/// Those of a step.
+const STEP_QUESTIONS: [u8; 20] = [11, 12, 13, 14, 15, 21, 22, 23, 24, 25, 26, 27, 28, 29, 30, 31, 32, 33, 34, 52];
 
 const TOTALS: [&str; 5] = ["total 0", "total 1 to 9", "total 10 to 99", "total 100 to 999", "total 1000 and more"];
 
@@ -89,7 +92,9 @@ pub enum Place {
 
 /// The questions of a pointer word after 31, and those that follow a chain.
 const POINTER_QUESTIONS: [u8; 6] = [11, 12, 13, 14, 15, 22];
-const OPERAND_QUESTIONS: [u8; 15] = [11, 12, 13, 14, 15, 22, 23, 24, 25, 26, 27, 28, 29, 30, 34];
+const OPERAND_QUESTIONS: [u8; 16] = [11, 12, 13, 14, 15, 22, 23, 24, 25, 26, 27, 28, 29, 30, 34, 52];
+/// Those of opcode 42.
+const FRAME_QUESTIONS: [u8; 8] = [11, 12, 13, 14, 15, 22, 34, 52];
 
 /// Counts of pointer words.
 const COUNTS: [&str; 4] = ["0", "1", "2 to 63", "64"];
@@ -148,6 +153,77 @@ impl PointerWords {
     }
 }
 
+/// Why a fault wasn't delivered.
+#[derive(Clone, Copy, Debug, PartialEq, Eq)]
+pub enum Unsaved {
+    SwitchOff,
+    /// Of 11 to 14, of the save segment.
+    No(u8),
+    Short,
+    NotWritable,
+}
+
+/// What became of faults, by number.
+struct Deliveries {
+    delivered: [u64; 64],
+    switch_off: [u64; 64],
+    unsaved: [u64; 64],
+    /// Delivered, by the pointer words read.
+    pointer_words: [u64; 4],
+    /// Not delivered, by what the save segment lacks: 11 to 14, words, W.
+    lacks: [u64; 6],
+    /// Of opcode 42, delivered or not; those at a pointer word aren't in the latter.
+    restoring_delivered: [u64; 64],
+    restoring_undelivered: [u64; 64],
+}
+
+impl Deliveries {
+    fn new() -> Deliveries {
+        Deliveries {
+            delivered: [0; 64],
+            switch_off: [0; 64],
+            unsaved: [0; 64],
+            pointer_words: [0; 4],
+            lacks: [0; 6],
+            restoring_delivered: [0; 64],
+            restoring_undelivered: [0; 64],
+        }
+    }
+
+    fn undelivered(&mut self, number: u8, why: Unsaved) {
+        let lack = match why {
+            Unsaved::SwitchOff => {
+                self.switch_off[usize::from(number)] += 1;
+                return;
+            }
+            Unsaved::No(number) => usize::from(number) - 11,
+            Unsaved::Short => 4,
+            Unsaved::NotWritable => 5,
+        };
+        self.unsaved[usize::from(number)] += 1;
+        self.lacks[lack] += 1;
+    }
+
+    fn print(&self, missed: &mut Vec<String>) {
+        let row = |name: &'static str, numbers: &[u8], counts: &[u64; 64], missed: &mut Vec<String>| {
+            println!("{name}:");
+            let cells = numbers.iter().map(|number| (format!("{number} {name}"), counts[usize::from(*number)]));
+            print_row(cells, missed);
+        };
+        row("delivered", &STEP_QUESTIONS, &self.delivered, missed);
+        row("undelivered, switch off", &STEP_QUESTIONS, &self.switch_off, missed);
+        row("undelivered, switch on", &STEP_QUESTIONS, &self.unsaved, missed);
+        println!("undelivered by the save segment, which lacks:");
+        let lacks = ["a yes to 11", "a yes to 12", "a yes to 13", "a yes to 14", "words", "W"];
+        print_row(lacks.into_iter().map(str::to_string).zip(self.lacks), missed);
+        println!("delivered, by their pointer words:");
+        print_row(COUNTS.iter().map(|name| format!("{name} read and delivered")).zip(self.pointer_words), missed);
+        let with_33 = [&FRAME_QUESTIONS[..], &[31, 33]].concat();
+        row("of opcode 42, delivered", &with_33, &self.restoring_delivered, missed);
+        row("of opcode 42 after its address, undelivered", &FRAME_QUESTIONS, &self.restoring_undelivered, missed);
+    }
+}
+
 /// The questions of a stored image.
 const STORED_QUESTIONS: [u8; 7] = [41, 42, 43, 44, 2, 3, 4];
 
@@ -155,7 +231,7 @@ const STORED_QUESTIONS: [u8; 7] = [41, 42, 43, 44, 2, 3, 4];
 #[derive(Default)]
 struct Conversions {
     refused: BTreeMap<u8, u64>,
-    unchanged: u64,
+    nothing_dropped: u64,
     dropped: u64,
     /// ST stood between two WDs of an address.
     st_between: u64,
@@ -178,7 +254,7 @@ impl Conversions {
         // By address: how many, how many of them before ST, and the first word.
         let mut seen: Vec<(u32, u32, u64)> = Vec::new();
         let (mut records, mut st, mut st_between, mut three, mut equal) = (0, false, false, false, false);
-        for (record, _) in image::records(old) {
+        for (record, _) in image::records(old, Rules::Stored) {
             records += 1;
             match record {
                 Record::Me { words } => seen.resize(words as usize, (0, 0, 0)),
@@ -197,7 +273,7 @@ impl Conversions {
                 Record::Rn { .. } => {}
             }
         }
-        let kept = image::records(new).filter_map(|(record, _)| match record {
+        let kept = image::records(new, Rules::Today).filter_map(|(record, _)| match record {
             Record::Wd { address, .. } => Some(address),
             _ => None,
         });
@@ -213,7 +289,7 @@ impl Conversions {
             .iter()
             .map(|number| (format!("refused {number}"), self.refused.get(number).copied().unwrap_or(0)));
         let others = [
-            ("unchanged", self.unchanged),
+            ("nothing dropped", self.nothing_dropped),
             ("something dropped", self.dropped),
             ("ST between two of an address", self.st_between),
             ("three of an address", self.three),
@@ -230,6 +306,7 @@ pub struct Reach {
     steps: u64,
     completed: [u64; 256],
     pointer_words: PointerWords,
+    deliveries: Deliveries,
     machines: Runs,
     images: Runs,
     conversions: Conversions,
@@ -249,6 +326,7 @@ impl Reach {
                 at_operand: [[0; 4]; 64],
                 with_i: [0; 64],
             },
+            deliveries: Deliveries::new(),
             machines: Runs::default(),
             images: Runs::default(),
             conversions: Conversions::default(),
@@ -267,10 +345,27 @@ impl Reach {
     }
 
     /// A single step's fault.
-    pub fn fault(&mut self, reply: Reply, place: Place) {
+    pub fn fault(&mut self, opcode: Option<u8>, reply: Reply, place: Place) {
         if let Reply::Fault { fault, pointer_words, .. } = reply {
             self.pointer_words.fault(fault.number, pointer_words, place);
+            if opcode == Some(RCU) && place == Place::Operand {
+                self.deliveries.restoring_undelivered[usize::from(fault.number)] += 1;
+            }
         }
+    }
+
+    /// A single step that delivered this.
+    pub fn delivered(&mut self, opcode: Option<u8>, fault: Fault, reply: Reply) {
+        let number = usize::from(fault.number);
+        self.steps += 1;
+        self.deliveries.delivered[number] += 1;
+        self.deliveries.pointer_words[count_cell(reply.pointer_words())] += 1;
+        self.deliveries.restoring_delivered[number] += u64::from(opcode == Some(RCU));
+    }
+
+    /// A fault that ended a run.
+    pub fn undelivered(&mut self, fault: Fault, why: Unsaved) {
+        self.deliveries.undelivered(fault.number, why);
     }
 
     pub fn run(&mut self, reply: Reply) {
@@ -298,8 +393,9 @@ impl Reach {
     pub fn conversion(&mut self, old: &[u8], result: &Result<Vec<u8>, u8>) {
         match result {
             Err(number) => *self.conversions.refused.entry(*number).or_default() += 1,
-            Ok(new) if new.len() < old.len() => self.conversions.dropped(old, new),
-            Ok(_) => self.conversions.unchanged += 1,
+            // ST gains five bytes.
+            Ok(new) if new.len() < old.len() + 5 => self.conversions.dropped(old, new),
+            Ok(_) => self.conversions.nothing_dropped += 1,
         }
     }
 
@@ -317,6 +413,8 @@ impl Reach {
         });
         print_row(rows, &mut missed);
         self.pointer_words.print(&mut missed);
+        println!("faults, each by what became of it:");
+        self.deliveries.print(&mut missed);
         println!("runs of machines, by the question answered no:");
         self.machines.print(&QUESTIONS, &mut missed);
         println!(

@@ -1,35 +1,72 @@
 //! Images in which addresses come several times: directed, every short sequence, few addresses, thousands of records.
 
 use crate::compare::{Comparer, Difference};
-use crate::images::{compare, every_sequence, me, rn, shuffle, state, wd, Failure};
+use crate::images::{compare, every_sequence, me, rn, shuffle, state, stored, wd, Failure};
 use crate::random::Random;
 use second::repeats::{cases, TEXT};
-use second::Descriptor;
+use second::{states, Descriptor};
 
 /// The library's directed images, with the answers that were worked out by hand; answers how many they are.
-pub fn directed(comparer: &mut Comparer) -> Result<usize, (&'static str, Failure)> {
-    let cases = cases();
-    for case in &cases {
-        let image = case.image();
+pub fn directed(comparer: &mut Comparer) -> Result<usize, (String, Failure)> {
+    let repeated = cases();
+    for case in &repeated {
         // 45 comes last.
         let without_text = case.refused.map_or(-45, |number| -i64::from(number));
-        for (length, expected) in [(TEXT, case.answer()), (0, without_text)] {
-            // Every alignment.
-            for filler in (0..64).map(|filler| filler * 3) {
-                let difference = match comparer.image(&image, length, filler) {
-                    Ok(answer) if answer == expected => continue,
-                    Ok(answer) => Difference(format!("both answer {answer}, the paper {expected}")),
-                    Err(difference) => difference,
-                };
-                return Err((case.name, (image, length, difference)));
+        for (length, answer) in [(TEXT, case.answer()), (0, without_text)] {
+            answers(comparer, case.name, &case.image(), length, Some(answer))?;
+        }
+        let stored = case.stored_image();
+        answers(comparer, case.name, &stored, TEXT, None)?;
+        converts(case.name, stored, case.converted())?;
+    }
+    let states = states::cases();
+    for case in &states {
+        answers(comparer, &case.name, &case.image, states::TEXT, Some(case.answer()))?;
+        converts(&case.name, case.image.clone(), case.converted.clone())?;
+    }
+    no_image(comparer)?;
+    Ok(repeated.len() + states.len())
+}
+
+/// In every alignment, this is what both answer, if it is known.
+fn answers(
+    comparer: &mut Comparer,
+    name: &str,
+    image: &[u8],
+    length: usize,
+    expected: Option<i64>,
+) -> Result<(), (String, Failure)> {
+    for filler in (0..64).map(|filler| filler * 3) {
+        let difference = match (comparer.image(image, length, filler), expected) {
+            (Ok(answer), Some(expected)) if answer != expected => {
+                Difference(format!("both answer {answer}, the paper {expected}"))
+            }
+            (Ok(_), _) => continue,
+            (Err(difference), _) => difference,
+        };
+        return Err((name.to_string(), (image.to_vec(), length, difference)));
+    }
+    Ok(())
+}
+
+fn converts(name: &str, image: Vec<u8>, expected: Result<Vec<u8>, u8>) -> Result<(), (String, Failure)> {
+    if second::convert(&image) == expected {
+        return Ok(());
+    }
+    let difference = Difference("both convert it alike, the paper otherwise".to_string());
+    Err((name.to_string(), (image, TEXT, difference)))
+}
+
+/// A conversion without its five bytes of room is that of an empty image.
+fn no_image(comparer: &mut Comparer) -> Result<(), (String, Failure)> {
+    for length in 0..5 {
+        for filler in 0..=255 {
+            if let Err(difference) = comparer.less_than_room(length, filler) {
+                return Err((format!("a conversion with {length} bytes"), (vec![], 0, difference)));
             }
         }
-        if second::convert(&image) != case.converted() {
-            let difference = Difference("both convert it alike, the paper otherwise".to_string());
-            return Err((case.name, (image, TEXT, difference)));
-        }
     }
-    Ok(cases.len())
+    Ok(())
 }
 
 /// A segment for IPR, open to all rings.
@@ -54,7 +91,9 @@ pub fn sequences(comparer: &mut Comparer, random: &mut Random, depth: usize) -> 
         wd(4, TRA),
         wd(5, LDI),
     ];
-    every_sequence(comparer, random, &tokens, &mut me(8), &rn(3), depth)?;
+    for tokens in [tokens.clone(), tokens.map(stored)] {
+        every_sequence(comparer, random, &tokens, &mut me(8), &rn(3), depth)?;
+    }
     Ok(comparer.images - before)
 }
 
@@ -88,7 +127,8 @@ pub fn few(comparer: &mut Comparer, random: &mut Random) -> Result<(), Failure> 
     }
     records.insert(0, me(size as u32));
     records.push(rn(random.below(9) as u32));
-    compare(comparer, random, &records.concat(), 64 * 9).map(|_| ())
+    let image = in_some_form(random, records);
+    compare(comparer, random, &image, 64 * 9).map(|_| ())
 }
 
 /// Thousands of WDs in any order: each address once, some twice, or drawn freely.
@@ -107,5 +147,15 @@ pub fn many(comparer: &mut Comparer, random: &mut Random) -> Result<(), Failure>
     records.insert(random.below(records.len() + 1), state(0, 1, 3, 4));
     records.insert(0, me(size as u32));
     records.push(rn(3));
-    compare(comparer, random, &records.concat(), 256).map(|_| ())
+    let image = in_some_form(random, records);
+    compare(comparer, random, &image, 256).map(|_| ())
+}
+
+/// One half today's, one half as they were stored.
+fn in_some_form(random: &mut Random, records: Vec<Vec<u8>>) -> Vec<u8> {
+    if random.chance(500) {
+        records.concat()
+    } else {
+        records.into_iter().flat_map(stored).collect()
+    }
 }

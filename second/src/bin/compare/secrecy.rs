@@ -1,6 +1,6 @@
 //! Two memories that differ in words hidden from ring n, each through the library along its stretch: same reply with the
 //! same pointer words, same registers after each step, and the words that aren't hidden still agree; and so the listings
-//! are equal texts.
+//! are equal texts. A stretch ends with the first step below ring n, or before the first that delivers a fault.
 
 use crate::compare::{Difference, Machine};
 use crate::describe;
@@ -52,6 +52,7 @@ pub struct Secrecy {
     pub pairs: u64,
     pub steps: u64,
     pub ended_below: u64,
+    pub ended_before_delivery: u64,
     pub faults: u64,
     pub hidden_words: u64,
     pub by_ring: [u64; 8],
@@ -75,6 +76,7 @@ impl Secrecy {
             pairs: 0,
             steps: 0,
             ended_below: 0,
+            ended_before_delivery: 0,
             faults: 0,
             hidden_words: 0,
             by_ring: [0; 8],
@@ -106,6 +108,7 @@ impl Secrecy {
                 self.by_ring[usize::from(n)] += 1;
                 self.steps += u64::from(done.steps);
                 self.ended_below += u64::from(done.ended_below);
+                self.ended_before_delivery += u64::from(done.ended_before_delivery);
                 self.faults += u64::from(done.faulted);
                 let after = self.lent[0].memory().iter().zip(&self.machine.memory).zip(&self.mask);
                 self.wrote_hidden +=
@@ -165,9 +168,11 @@ impl Secrecy {
     }
 }
 
+#[derive(Default)]
 struct Done {
     steps: u32,
     ended_below: bool,
+    ended_before_delivery: bool,
     faulted: bool,
     /// Over the completed steps.
     pointer_words: u64,
@@ -182,36 +187,43 @@ fn check(machine: &Machine, other: &[u64], mask: &[u64], n: u8, lent: &mut [Lent
     let [one, two] = lent;
     one.set(&machine.registers, &machine.memory);
     two.set(&machine.registers, other);
-    let mut done = Done {
-        steps: 0,
-        ended_below: false,
-        faulted: false,
-        pointer_words: 0,
-        pointers_of_fault: 0,
-        budget: machine.budget,
-    };
+    let mut done = Done { budget: machine.budget, ..Done::default() };
+    let mut after_steps = machine.registers;
     while done.steps < machine.budget {
         let answers = [one.step(), two.step()];
+        let is_below = |lent: &Lent, answer: Answer| answer.count == 1 && lent.registers().ipr.ring < n;
+        // A delivered fault ends in ring 0.
+        if is_below(one, answers[0]) || is_below(two, answers[1]) {
+            let memories = [&machine.memory[..], other];
+            let delivers = memories.map(|memory| delivers(machine, memory, done.steps));
+            if delivers[0] != delivers[1] {
+                return Err(Difference(format!("step {}: only one of them delivers a fault", done.steps + 1)));
+            }
+            if delivers[0] {
+                done.ended_before_delivery = true;
+                break;
+            }
+        }
         agree(answers, one, two, mask)
             .map_err(|Difference(text)| Difference(format!("step {}: {text}", done.steps + 1)))?;
+        after_steps = one.registers();
         let [answer, _] = answers;
         done.steps += answer.count;
-        done.faulted = answer.kind == 3;
+        done.faulted = answer.kind == Answer::FAULT;
         if done.faulted {
             done.pointers_of_fault = answer.pointer_words;
         } else {
             done.pointer_words += answer.pointer_words;
         }
-        done.ended_below = answer.count == 1 && one.registers().ipr.ring < n;
+        done.ended_below = is_below(one, answer);
         if answer.kind != Answer::SPENT || done.ended_below {
             break;
         }
     }
-    if done.ended_below {
+    if done.ended_below || done.ended_before_delivery {
         done.budget = done.steps;
     }
     let budget = done.budget;
-    let after_steps = one.registers();
     one.set(&machine.registers, &machine.memory);
     two.set(&machine.registers, other);
     let answers = [one.run(budget), two.run(budget)];
@@ -224,6 +236,19 @@ fn check(machine: &Machine, other: &[u64], mask: &[u64], n: u8, lent: &mut [Lent
         return Err(Difference(format!("the run of {budget} answers {run} pointer words, its steps {steps}")));
     }
     Ok(done)
+}
+
+/// Does the step after so many deliver a fault? With the switch off, such a step faults.
+fn delivers(machine: &Machine, memory: &[u64], steps: u32) -> bool {
+    if machine.registers.fault_switch == 0 {
+        return false;
+    }
+    let mut before = Lent::new(3);
+    before.set(&machine.registers, memory);
+    before.run(steps);
+    let mut plain = Lent::new(4);
+    plain.set(&Registers { fault_switch: 0, ..before.registers() }, before.memory());
+    plain.step().kind == Answer::FAULT
 }
 
 /// The two stretches as images: the bench's call gives one text.

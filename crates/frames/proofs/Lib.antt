@@ -1,0 +1,4 @@
+-- Laws of this crate. Assumes nothing.
+pub mod SaveLaws
+pub mod FrameLaws
+pub mod TakeLaws

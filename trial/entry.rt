@@ -1,0 +1,130 @@
+// A call on a register record and a memory that the host lends: a run, or a single step.
+ghost use Rattle.entry.specs.Call.{together, Call-says};
+use host::record::DescriptorBase;
+use host::record::Pointer;
+use host::record::Registers;
+use state::Delivery;
+
+// An answer as numbers. Kinds: 0 refused, 1 spent or completed, 2 halted, 3 fault; what a kind leaves free is 0. Pointer words are
+// those of a run's completed steps, or of a single step however it ends.
+#[repr(C)]
+pub struct Answer {
+    pub kind: u32,
+    pub number: u32,
+    pub count: u32,
+    pub pointer: Pointer,
+    pub pointer_words: u64,
+}
+
+// An answer, and the record's fields beside its array.
+struct Answered {
+    pub answer: Answer,
+    pub a: u64,
+    pub dbr: DescriptorBase,
+    pub ipr: Pointer,
+}
+
+// A run on the parts of a record, as one or as a single step: its PRs are lent, the rest comes and goes by value.
+fn run_fields(
+    prs: &mut [u16; 24],
+    memory: &mut [u64],
+    a: u64,
+    dbr: DescriptorBase,
+    ipr: Pointer,
+    delivery: Delivery,
+    budget: u32,
+    single: bool,
+) -> Answered
+    ensures { λ x. ⌜ Call-says single budget (together a dbr ipr delivery (now (prs .entry))) (now (memory .entry)) (x .answer) (together (x .a) (x .dbr) (x .ipr) delivery (now (prs .exit))) (now (memory .exit)) ⌝ }
+{
+    let base = host::record::to_base(dbr);
+    let at = host::record::to_core(ipr);
+    let mut none: [u64; 0] = [];
+    let x = machine::run(
+        host::start::is_delivery(delivery),
+        a,
+        base.address,
+        base.length,
+        at.ring,
+        at.segment.0,
+        at.word.0,
+        prs,
+        memory,
+        budget,
+        &mut none,
+        single,
+    );
+    Answered {
+        answer: Answer {
+            kind: x.kind as u32,
+            number: x.number as u32,
+            count: x.count as u32,
+            pointer: host::record::from_core(x.pointer),
+            pointer_words: x.pointers,
+        },
+        a: x.core.a,
+        dbr: host::record::from_base(x.core.dbr),
+        ipr: host::record::from_core(x.core.ipr),
+    }
+}
+
+
+pub fn after_fault(registers: &mut Registers, memory: &mut [u64], budget: u32, single: bool, first: Answer) -> Answer
+{
+    let mut y = first;
+    let mut going = true;
+    let mut a = registers.a;
+    let mut dbr = registers.dbr;
+    let mut ipr = registers.ipr;
+    let delivery = registers.delivery;
+    while going {
+        let at = host::record::core_of(*registers);
+        let p = host::record::to_core(y.pointer);
+        if y.number == 0 {
+            let r = frames::restore::restore(at, words::descriptor::Descriptor(0), &mut registers.prs, memory, p);
+            a = r.core.a;
+            dbr = host::record::from_base(r.core.dbr);
+            ipr = host::record::from_core(r.core.ipr);
+        } else {
+            if !frames::deliver::deliver(delivery, at, &mut registers.prs, memory, y.number as u8, p) {
+                going = false;
+            }
+            ipr = Pointer { ring: 0, segment: delivery.handler, word: 0 };
+        }
+        if going {
+            let x = run_fields(&mut registers.prs, memory, a, dbr, ipr, delivery, budget, single);
+            registers.a = x.a;
+            registers.dbr = x.dbr;
+            registers.ipr = x.ipr;
+            y = x.answer;
+            if y.kind != 3 {
+                going = false;
+            }
+        }
+    }
+    y
+}
+
+// A call on the host's own record: its array is lent on in place, the other fields are read before the run and stored after it.
+pub fn call(registers: &mut Registers, memory: &mut [u64], budget: u32, single: bool) -> Answer
+    ensures { λ r. ⌜ Call-says single budget (now (registers .entry)) (now (memory .entry)) r (now (registers .exit)) (now (memory .exit)) ⌝ }
+{
+    let a = registers.a;
+    let dbr = registers.dbr;
+    let ipr = registers.ipr;
+    let delivery = registers.delivery;
+    let x = run_fields(
+        &mut registers.prs,
+        memory,
+        a,
+        dbr,
+        ipr,
+        delivery,
+        budget,
+        single,
+    );
+    registers.a = x.a;
+    registers.dbr = x.dbr;
+    registers.ipr = x.ipr;
+    x.answer
+}
