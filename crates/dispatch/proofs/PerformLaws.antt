@@ -22,6 +22,7 @@ use Rattle.state.specs.View.{as-pointers, pr-of, registers-with, machine-with, 
 use Rattle.state.specs.declared.Core.{Core}
 use Rattle.state.specs.declared.After.{After}
 use Rattle.state.proofs.DoesLaws.{does-fault, does-as, does-finish}
+use Rattle.dispatch.specs.Plain.{plainly}
 use Rattle.dispatch.specs.Dispatch.{dispatched, dispatched-in, Halts}
 
 or-true : (a : Bool) {b : Bool} → b ≡ true → a || b ≡ true
@@ -41,20 +42,20 @@ halted-does c d ps m x h =
 
 -- AN ENTRY'S ARM: 33 is asked where the entry is privileged
 module _ (n : ℕ) (r : Registers) (i : Instruction) (t : Pointer) (o : Opcode) (e : decoded (i .opcode) ≡ some o) where
-  dispatched-as : o .privileged ≡ false → dispatched n r i (decoded (i .opcode)) t ≡ Step.perform n (o .access) i r t
+  dispatched-as : o .privileged ≡ false → dispatched n r i (decoded (i .opcode)) t ≡ plainly n (o .access) i r t
   unfolding dispatched
-  dispatched-as h = ap (λ d. dispatched n r i d t) e ∙ ap (λ p. cond (not p || eqb (r .ipr .ring) 0) (Step.perform n (o .access) i r t) (fail 33 (r .ipr))) h
+  dispatched-as h = ap (λ d. dispatched n r i d t) e ∙ ap (λ p. cond (not p || eqb (r .ipr .ring) 0) (plainly n (o .access) i r t) (fail 33 (r .ipr))) h
 
-  dispatched-in-ring-0 : r .ipr .ring ≡ 0 → dispatched n r i (decoded (i .opcode)) t ≡ Step.perform n (o .access) i r t
+  dispatched-in-ring-0 : r .ipr .ring ≡ 0 → dispatched n r i (decoded (i .opcode)) t ≡ plainly n (o .access) i r t
   unfolding dispatched
-  dispatched-in-ring-0 h = ap (λ d. dispatched n r i d t) e ∙ ap (λ b. cond b (Step.perform n (o .access) i r t) (fail 33 (r .ipr))) (or-true (not (o .privileged)) (eq-eqb _ _ h))
+  dispatched-in-ring-0 h = ap (λ d. dispatched n r i d t) e ∙ ap (λ b. cond b (plainly n (o .access) i r t) (fail 33 (r .ipr))) (or-true (not (o .privileged)) (eq-eqb _ _ h))
 
   dispatched-33 : o .privileged ≡ true → (r .ipr .ring ≡ 0 → ⊥) → dispatched n r i (decoded (i .opcode)) t ≡ fail 33 (r .ipr)
   unfolding dispatched
   dispatched-33 h z =
       ap (λ d. dispatched n r i d t) e
-      ∙ ap (λ p. cond (not p || eqb (r .ipr .ring) 0) (Step.perform n (o .access) i r t) (fail 33 (r .ipr))) h
-      ∙ ap (λ b. cond b (Step.perform n (o .access) i r t) (fail 33 (r .ipr))) (ne-eqb _ _ z)
+      ∙ ap (λ p. cond (not p || eqb (r .ipr .ring) 0) (plainly n (o .access) i r t) (fail 33 (r .ipr))) h
+      ∙ ap (λ b. cond b (plainly n (o .access) i r t) (fail 33 (r .ipr))) (ne-eqb _ _ z)
 
 -- the opcode that an arm's number stands for
 decodes-as : (i : Instruction) (v k : ℕ) (o : Opcode) → v ≡ i .opcode → v ≡ k → decoded k ≡ some o → decoded (i .opcode) ≡ some o
@@ -66,47 +67,47 @@ module _ (c : Core) (d : Descriptor) (ps : List Pointer) (m m-now : List ℕ) (w
   program = dispatched-in (machine-with c ps m) w t
 
   as-entry : (ps-now : List Pointer) (o : Opcode) → decoded (instruction-in w .opcode) ≡ some o → o .privileged ≡ false →
-      Does c d ps m (Step.perform (length m) (o .access) (instruction-in w) (registers-with c ps) t) x ps-now m-now → Does c d ps m program x ps-now m-now
+      Does c d ps m (plainly (length m) (o .access) (instruction-in w) (registers-with c ps) t) x ps-now m-now → Does c d ps m program x ps-now m-now
   as-entry ps-now o f h k = does-as c d ps m _ x ps-now m-now _ (ap (execute (machine-with c ps m)) (dispatched-as (length m) (registers-with c ps) (instruction-in w) t o f h)) k
 
   module _ (k : ℕ) (f : v ≡ k) where
     pub load-arm : decoded k ≡ some (unprivileged k (reads (result k))) → Does-with-any-prs c d m (λ r. Step.load (result k) r t) x m-now → Does c d ps m program x ps m-now
-    unfolding Step.perform
+    unfolding plainly Step.perform
     load-arm g h = as-entry ps _ (decodes-as (instruction-in w) v k _ e f g) refl (h .does ps)
 
     pub transfer-arm : decoded k ≡ some (unprivileged k (transfers (taken k))) → Does-with-any-prs c d m (λ r. Step.transfer (taken k (c .a)) r t) x m-now → Does c d ps m program x ps m-now
-    unfolding Step.perform
+    unfolding plainly Step.perform
     transfer-arm g h = as-entry ps _ (decodes-as (instruction-in w) v k _ e f g) refl (h .does ps)
 
   pub sta-arm : v ≡ 2 → Does-with-any-prs c d m (λ r. Step.store (c .a) r t) x m-now → Does c d ps m program x ps m-now
-  unfolding Step.perform STA by-computation
+  unfolding plainly Step.perform STA by-computation
   sta-arm f h = as-entry ps STA (decodes-as (instruction-in w) v 2 _ e f refl) refl (h .does ps)
 
   pub aos-arm : v ≡ 9 → Does-with-any-prs c d m (λ r. Step.update (λ y. sum y 1) r t) x m-now → Does c d ps m program x ps m-now
-  unfolding Step.perform AOS by-computation
+  unfolding plainly Step.perform AOS by-computation
   aos-arm f h = as-entry ps AOS (decodes-as (instruction-in w) v 9 _ e f refl) refl (h .does ps)
 
   pub ldi-arm : v ≡ 10 → Finishes-with-any-prs c d (with-a (instruction-in w .lit)) x → m-now ≡ m → Does c d ps m program x ps m-now
-  unfolding Step.perform LDI by-computation
+  unfolding plainly Step.perform LDI by-computation
   ldi-arm f h k = as-entry ps LDI (decodes-as (instruction-in w) v 10 _ e f refl) refl (rw k (does-finish c d ps m (with-a (instruction-in w .lit)) x ps (h .finishes ps)))
 
   pub eap-arm : v ≡ 16 → (ps-now : List Pointer) → Finishes c d ps (with-pr (instruction-in w .reg) t) x ps-now → m-now ≡ m → Does c d ps m program x ps-now m-now
-  unfolding Step.perform EAP by-computation
+  unfolding plainly Step.perform EAP by-computation
   eap-arm f ps-now h k = as-entry ps-now EAP (decodes-as (instruction-in w) v 16 _ e f refl) refl (rw k (does-finish c d ps m (with-pr (instruction-in w .reg) t) x ps-now h))
 
   pub call-arm : v ≡ 32 → (ps-now : List Pointer) → Does c d ps m (Step.call (registers-with c ps) t) x ps-now m-now → Does c d ps m program x ps-now m-now
-  unfolding Step.perform CALL by-computation
+  unfolding plainly Step.perform CALL by-computation
   call-arm f ps-now h = as-entry ps-now CALL (decodes-as (instruction-in w) v 32 _ e f refl) refl h
 
   pub return-arm : v ≡ 33 → (ps-now : List Pointer) → Does c d ps m (Step.return (registers-with c ps) t) x ps-now m-now → Does c d ps m program x ps-now m-now
-  unfolding Step.perform RETURN by-computation
+  unfolding plainly Step.perform RETURN by-computation
   return-arm f ps-now h = as-entry ps-now RETURN (decodes-as (instruction-in w) v 33 _ e f refl) refl h
 
 -- SPP stores the pointer word of a PR
 pub spp-arm : (c : Core) (d : Descriptor) (prs : List ℕ) (m m-now : List ℕ) (w : ℕ) (t : Pointer) (x : After) (v u : ℕ) → v ≡ instruction-in w .opcode → v ≡ 17 →
     u ≡ pointer-word (pr-of prs (instruction-in w .reg)) → Does-with-any-prs c d m (λ r. Step.store u r t) x m-now →
     Does c d (as-pointers prs) m (dispatched-in (machine-with c (as-pointers prs) m) w t) x (as-pointers prs) m-now
-unfolding Step.perform SPP by-computation pr-of
+unfolding plainly Step.perform SPP by-computation pr-of
 spp-arm c d prs m m-now w t x v u e f g h =
     as-entry c d (as-pointers prs) m m-now w t x v e (as-pointers prs) SPP (decodes-as (instruction-in w) v 17 _ e f refl) refl
     (does-as c d (as-pointers prs) m _ x (as-pointers prs) m-now _ (rw (← g) refl) (h .does (as-pointers prs)))
@@ -159,13 +160,13 @@ module _ (c : Core) (d : Descriptor) (ps : List Pointer) (m : List ℕ) (w : ℕ
   hlt-refused f z u g k = refuse-33 HLT (decodes-as (instruction-in w) v 41 _ e f refl) refl z u g k
 
   pub ldbr-arm : v ≡ 40 → c .ipr .ring ≡ 0 → Does-with-any-prs c d m (λ r. Step.load-dbr (length m) r t) x m → Does c d ps m (dispatched-in (machine-with c ps m) w t) x ps m
-  unfolding Step.perform LDBR by-computation
+  unfolding plainly Step.perform LDBR by-computation
   ldbr-arm f z h =
       does-as c d ps m _ x ps m _
       (ap (execute (machine-with c ps m)) (dispatched-in-ring-0 (length m) (registers-with c ps) (instruction-in w) t LDBR (decodes-as (instruction-in w) v 40 _ e f refl) z)) (h .does ps)
 
   pub hlt-arm : v ≡ 41 → c .ipr .ring ≡ 0 → Halts c d x → Does c d ps m (dispatched-in (machine-with c ps m) w t) x ps m
-  unfolding Step.perform HLT by-computation ended execute machine advanced with-ipr moved-by
+  unfolding plainly Step.perform HLT by-computation ended execute machine advanced with-ipr moved-by
   hlt-arm f z h =
       does-as c d ps m _ x ps m _
       (ap (execute (machine-with c ps m)) (dispatched-in-ring-0 (length m) (registers-with c ps) (instruction-in w) t HLT (decodes-as (instruction-in w) v 41 _ e f refl) z))
@@ -175,12 +176,12 @@ module _ (c : Core) (d : Descriptor) (ps : List Pointer) (m : List ℕ) (w : ℕ
   unfolding RCU by-computation
   rcu-refused f z u g k = refuse-33 RCU (decodes-as (instruction-in w) v 42 _ e f refl) refl z u g k
 
-  pub rcu-arm : v ≡ 42 → c .ipr .ring ≡ 0 → (ps-now : List Pointer) → Does c d ps m (Step.restore (length m) t) x ps-now m →
-      Does c d ps m (dispatched-in (machine-with c ps m) w t) x ps-now m
-  unfolding Step.perform RCU by-computation
-  rcu-arm f z ps-now h =
-      does-as c d ps m _ x ps-now m _
-      (ap (execute (machine-with c ps m)) (dispatched-in-ring-0 (length m) (registers-with c ps) (instruction-in w) t RCU (decodes-as (instruction-in w) v 42 _ e f refl) z)) h
+  -- RCU stops there
+  pub rcu-arm : v ≡ 42 → c .ipr .ring ≡ 0 → (u : Code.Pointer) → x ≡ faulted-after c d 0 u → as-pointer u ≡ t → Does c d ps m (dispatched-in (machine-with c ps m) w t) x ps m
+  unfolding plainly RCU by-computation execute
+  rcu-arm f z u g k =
+      does-fault c d ps m _ x 0 u g
+      (ap (execute (machine-with c ps m)) (dispatched-in-ring-0 (length m) (registers-with c ps) (instruction-in w) t RCU (decodes-as (instruction-in w) v 42 _ e f refl) z) ∙ ap (faults 0) (sym k))
 
   -- 32: an arm for none of the numbers
   pub unknown-arm : No-arm v → (u : Code.Pointer) → x ≡ faulted-after c d 32 u → as-pointer u ≡ as-pointer (c .ipr) → Does c d ps m (dispatched-in (machine-with c ps m) w t) x ps m

@@ -10,17 +10,17 @@ use Rattle.model.specs.Words.{instruction-in}
 use Rattle.model.specs.Registers as Registers
 use Rattle.model.specs.Opcodes.{Opcode, decoded}
 use Rattle.model.specs.Program.{Program, fail}
-use Rattle.model.specs.Step.{perform}
+use Rattle.dispatch.specs.Plain.{plainly}
 use Rattle.words.specs.declared.descriptor.Descriptor.{Descriptor}
 use Rattle.state.specs.View.{Becomes}
 use Rattle.state.specs.declared.Core.{Core}
 use Rattle.state.specs.declared.After.{After}
 use Rattle.state.specs.declared.End.the-variants.{Halted}
 
--- once TPR is formed: 32 and 33, and what the opcode does there
+-- once TPR is formed: 32 and 33, and what the opcode does there in a plain step
 unfoldable pub dispatched : (size : ℕ) → Registers.Registers → Words.Instruction → Option Opcode → Words.Pointer → Program
 dispatched n r i none t = fail 32 (r .ipr)
-dispatched n r i (some o) t = cond (not (o .privileged) || eqb (r .ipr .ring) 0) (perform n (o .access) i r t) (fail 33 (r .ipr))
+dispatched n r i (some o) t = cond (not (o .privileged) || eqb (r .ipr .ring) 0) (plainly n (o .access) i r t) (fail 33 (r .ipr))
 
 -- of an instruction word
 abbrev pub dispatched-in : Registers.Machine → (word : ℕ) → Words.Pointer → Program

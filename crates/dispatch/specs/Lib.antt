@@ -1,2 +1,3 @@
--- What the contracts of this crate cite. Assumes nothing: these are definitions.
+-- What performing answers, and the plain step. Assumes nothing: these are definitions.
+pub mod Plain
 pub mod Dispatch

@@ -75,7 +75,7 @@ pub fn perform(
             if ipr.ring != 0 { // 33 of RCU
                 return state::faulted(core, code, 33, ipr);
             }
-            frames::restore::restore(core, code, prs, memory, t)
+            state::faulted(core, code, 0, t) // RCU is performed outside the loop
         }
         _ => state::faulted(core, code, 32, ipr),
     }

@@ -11,11 +11,10 @@ use Rattle.model.specs.Registers.{Registers, Machine}
 use Rattle.model.specs.Opcodes.{Opcode, decoded}
 use Rattle.model.specs.Questions.{ask, fetch-questions}
 use Rattle.model.specs.Program.{Program, fail, execute, faults, ticks}
-use Rattle.model.specs.Step.{first-address, chain, with-operand, perform, obey, step-program, step, pointer-words}
+use Rattle.model.specs.Step.{first-address, chain, with-operand, pointer-words}
 use Rattle.model.proofs.BranchLaws.{cond-holds, and-left, and-right}
 use Rattle.model.proofs.Computing.{by-computation}
 use Rattle.model.proofs.QuestionLaws.{ask-yes}
-use Rattle.model.proofs.TickLaws.{perform-without-ticks}
 use Rattle.model.proofs.TableLaws.{Each, If-there, decoded-has}
 use Rattle.words.specs.View.{as-pointer, Pointer-within}
 use Rattle.words.specs.declared.descriptor.Descriptor.{Descriptor}
@@ -31,18 +30,20 @@ use Rattle.addressing.specs.Address.{read-by, as-formed, Addressed}
 use Rattle.addressing.specs.declared.Address.{Address}
 use Rattle.addressing.specs.declared.Address.the-variants as Address
 use Rattle.addressing.proofs.ChainLaws.{landed, chain-formed, chain-counted}
+use Rattle.dispatch.specs.Plain.{plainly, obey-plainly, plain-program, plain-step}
 use Rattle.dispatch.specs.Dispatch.{dispatched, dispatched-in}
+use Rattle.dispatch.proofs.PlainLaws.{plain-counts, plainly-without-ticks}
 use Rattle.processor.specs.Step.{obeyed-in, operand-formed, Ready-to-perform}
 
 -- AN OPCODE WITHOUT AN OPERAND does the same at any pointer
 abbrev Ignores : Opcode → Type 0
-Ignores o = o .operand ≡ false → (n : ℕ) (i : Instruction) (r : Registers) (t u : Pointer) → perform n (o .access) i r t ≡ perform n (o .access) i r u
+Ignores o = o .operand ≡ false → (n : ℕ) (i : Instruction) (r : Registers) (t u : Pointer) → plainly n (o .access) i r t ≡ plainly n (o .access) i r u
 
 impossible : {A : Type 0} → true ≡ false → A
 impossible e = absurd (subst T e tt)
 
 each-ignores : Each Ignores
-unfolding by-computation
+unfolding plainly by-computation
 each-ignores =
     record {
       lda = λ e n i r t u. impossible e;
@@ -74,31 +75,31 @@ chain-off zero t f = refl
 chain-off (suc n) t f = refl
 
 straight : (n : ℕ) (r : Registers) (i : Instruction) (t : Pointer) (o : Opcode) → o .operand ≡ true → i .i ≡ false → t ≡ first-address i r →
-    with-operand o i r (perform n (o .access) i r) ≡ perform n (o .access) i r t
+    with-operand o i r (plainly n (o .access) i r) ≡ plainly n (o .access) i r t
 unfolding with-operand
 straight n r i t o e f g =
-    let act = perform n (o .access) i r in
+    let act = plainly n (o .access) i r in
     ap (λ b. cond b (chain 64 (i .i) (first-address i r) act) (act (r .ipr))) e
     ∙ ap (λ j. chain 64 j (first-address i r) act) f
     ∙ chain-off 64 (first-address i r) act
     ∙ ap act (sym g)
 
 nowhere : (n : ℕ) (r : Registers) (i : Instruction) (t : Pointer) (o : Opcode) → Ignores o → o .operand ≡ false →
-    with-operand o i r (perform n (o .access) i r) ≡ perform n (o .access) i r t
+    with-operand o i r (plainly n (o .access) i r) ≡ plainly n (o .access) i r t
 unfolding with-operand
 nowhere n r i t o h e = rw e (h e n i r (r .ipr) t)
 
 operand-direct : (n : ℕ) (r : Registers) (i : Instruction) (t : Pointer) (o : Opcode) → Ignores o → o .operand && i .i ≡ false → t ≡ first-address i r →
-    with-operand o i r (perform n (o .access) i r) ≡ perform n (o .access) i r t
+    with-operand o i r (plainly n (o .access) i r) ≡ plainly n (o .access) i r t
 operand-direct n r i t o h e f = by-operand (o .operand) refl
   where
-    by-operand : (b : Bool) → o .operand ≡ b → with-operand o i r (perform n (o .access) i r) ≡ perform n (o .access) i r t
+    by-operand : (b : Bool) → o .operand ≡ b → with-operand o i r (plainly n (o .access) i r) ≡ plainly n (o .access) i r t
     by-operand true g = straight n r i t o g (rw g at e) f
     by-operand false g = nowhere n r i t o h g
 
 direct : (n : ℕ) (r : Registers) (i : Instruction) (t : Pointer) (d : Option Opcode) → If-there Ignores d → of-entry (λ o. o .operand) d && i .i ≡ false → t ≡ first-address i r →
-    obey n r i d ≡ dispatched n r i d t
-unfolding of-entry obey dispatched
+    obey-plainly n r i d ≡ dispatched n r i d t
+unfolding of-entry obey-plainly dispatched
 direct n r i t none h e f = refl
 direct n r i t (some o) h e f = ap (λ p. cond (not (o .privileged) || eqb (r .ipr .ring) 0) p (fail 33 (r .ipr))) (operand-direct n r i t o h e f)
 
@@ -107,7 +108,7 @@ dispatched-counts : (m : Machine) (n : ℕ) (r : Registers) (i : Instruction) (d
 unfolding dispatched ticks
 dispatched-counts m n r i none t = refl
 dispatched-counts m n r i (some o) t =
-    cond-holds (λ p. ticks m p ≡ 0) (not (o .privileged) || eqb (r .ipr .ring) 0) (λ _. perform-without-ticks m n (o .access) i r t) (λ _. refl)
+    cond-holds (λ p. ticks m p ≡ 0) (not (o .privileged) || eqb (r .ipr .ring) 0) (λ _. plainly-without-ticks m n (o .access) i r t) (λ _. refl)
 
 -- 33 comes first
 not-or : (p e : Bool) → p && not e ≡ true → not p || e ≡ false
@@ -121,42 +122,42 @@ or-yes true false h = sym h
 or-yes false e h = refl
 
 privileged-refused : (m : Machine) (n : ℕ) (r : Registers) (i : Instruction) (d : Option Opcode) → of-entry (λ o. o .privileged) d && not (eqb (r .ipr .ring) 0) ≡ true →
-    execute m (obey n r i d) ≡ faults 33 (r .ipr)
-unfolding of-entry obey execute
+    execute m (obey-plainly n r i d) ≡ faults 33 (r .ipr)
+unfolding of-entry obey-plainly execute
 privileged-refused m n r i none e = impossible (sym e)
 privileged-refused m n r i (some o) e = rw (not-or (o .privileged) (eqb (r .ipr .ring) 0) e)
 
 privileged-counts : (m : Machine) (n : ℕ) (r : Registers) (i : Instruction) (d : Option Opcode) → of-entry (λ o. o .privileged) d && not (eqb (r .ipr .ring) 0) ≡ true →
-    ticks m (obey n r i d) ≡ 0
-unfolding of-entry obey ticks
+    ticks m (obey-plainly n r i d) ≡ 0
+unfolding of-entry obey-plainly ticks
 privileged-counts m n r i none e = impossible (sym e)
 privileged-counts m n r i (some o) e = rw (not-or (o .privileged) (eqb (r .ipr .ring) 0) e) refl
 
 -- through pointer words
 module _ (m : Machine) (n : ℕ) (i : Instruction) (t : Pointer) (f : t ≡ first-address i (m .registers)) (x : Address) (s : Addressed (m .registers .dbr) (m .memory) t x) where
   chained : (o : Opcode) → o .operand && i .i ≡ true → o .privileged && not (eqb (m .registers .ipr .ring) 0) ≡ false →
-      obey n (m .registers) i (some o) ≡ chain 64 true t (perform n (o .access) i (m .registers))
-  unfolding obey with-operand
+      obey-plainly n (m .registers) i (some o) ≡ chain 64 true t (plainly n (o .access) i (m .registers))
+  unfolding obey-plainly with-operand
   chained o e g =
       let r = m .registers in
-      let act = perform n (o .access) i r in
+      let act = plainly n (o .access) i r in
       ap (λ b. cond b (with-operand o i r act) (fail 33 (r .ipr))) (or-yes (o .privileged) (eqb (r .ipr .ring) 0) g)
       ∙ ap (λ b. cond b (chain 64 (i .i) (first-address i r) act) (act (r .ipr))) (and-left (o .operand) (i .i) e)
       ∙ ap (λ j. chain 64 j (first-address i r) act) (and-right (o .operand) (i .i) e)
       ∙ ap (λ z. chain 64 true z act) (sym f)
 
   through-words : (o : Opcode) → o .operand && i .i ≡ true → o .privileged && not (eqb (m .registers .ipr .ring) 0) ≡ false →
-      execute m (obey n (m .registers) i (some o)) ≡ landed m (perform n (o .access) i (m .registers)) (as-formed x)
-  through-words o e g = ap (execute m) (chained o e g) ∙ chain-formed m t x s (perform n (o .access) i (m .registers))
+      execute m (obey-plainly n (m .registers) i (some o)) ≡ landed m (plainly n (o .access) i (m .registers)) (as-formed x)
+  through-words o e g = ap (execute m) (chained o e g) ∙ chain-formed m t x s (plainly n (o .access) i (m .registers))
 
   words-counted : (o : Opcode) → o .operand && i .i ≡ true → o .privileged && not (eqb (m .registers .ipr .ring) 0) ≡ false →
-      ticks m (obey n (m .registers) i (some o)) ≡ read-by (as-formed x)
+      ticks m (obey-plainly n (m .registers) i (some o)) ≡ read-by (as-formed x)
   words-counted o e g =
       ap (ticks m) (chained o e g)
-      ∙ chain-counted m t x s (perform n (o .access) i (m .registers)) (λ u. perform-without-ticks m n (o .access) i (m .registers) u)
+      ∙ chain-counted m t x s (plainly n (o .access) i (m .registers)) (λ u. plainly-without-ticks m n (o .access) i (m .registers) u)
 
   performed : (o : Opcode) (u : Pointer) → o .privileged && not (eqb (m .registers .ipr .ring) 0) ≡ false →
-      perform n (o .access) i (m .registers) u ≡ dispatched n (m .registers) i (some o) u
+      plainly n (o .access) i (m .registers) u ≡ dispatched n (m .registers) i (some o) u
   unfolding dispatched
   performed o u g = rw (or-yes (o .privileged) (eqb (m .registers .ipr .ring) 0) g)
 
@@ -192,17 +193,17 @@ module _ (m : Machine) (w v : ℕ) (q : v ≡ instruction-in w .opcode) (b j : B
         lands : (o : Opcode) (x : Address) → o .privileged && not (eqb (m .registers .ipr .ring) 0) ≡ false → decoded (instruction-in w .opcode) ≡ some o →
             Addressed (m .registers .dbr) (m .memory) t x → t ≡ first-address (instruction-in w) (m .registers) → o .operand && instruction-in w .i ≡ true → operand-formed m w x
         lands o (Address.Bad n u c) g d s k a = (
-          ap (λ z. execute m (obey (length (m .memory)) (m .registers) (instruction-in w) z)) d
+          ap (λ z. execute m (obey-plainly (length (m .memory)) (m .registers) (instruction-in w) z)) d
               ∙ through-words m (length (m .memory)) (instruction-in w) t k (Address.Bad n u c) s o a g,
-          ap (λ z. ticks m (obey (length (m .memory)) (m .registers) (instruction-in w) z)) d
+          ap (λ z. ticks m (obey-plainly (length (m .memory)) (m .registers) (instruction-in w) z)) d
               ∙ words-counted m (length (m .memory)) (instruction-in w) t k (Address.Bad n u c) s o a g,
         )
         lands o (Address.Good u c) g d s k a = (
-          ap (λ z. execute m (obey (length (m .memory)) (m .registers) (instruction-in w) z)) d
+          ap (λ z. execute m (obey-plainly (length (m .memory)) (m .registers) (instruction-in w) z)) d
               ∙ through-words m (length (m .memory)) (instruction-in w) t k (Address.Good u c) s o a g
               ∙ ap (execute m) (performed m (length (m .memory)) (instruction-in w) t k (Address.Good u c) s o (as-pointer u) g)
               ∙ ap (λ z. execute m (dispatched (length (m .memory)) (m .registers) (instruction-in w) z (as-pointer u))) (sym d),
-          ap (λ z. ticks m (obey (length (m .memory)) (m .registers) (instruction-in w) z)) d
+          ap (λ z. ticks m (obey-plainly (length (m .memory)) (m .registers) (instruction-in w) z)) d
               ∙ words-counted m (length (m .memory)) (instruction-in w) t k (Address.Good u c) s o a g,
           s .within,
         )
@@ -217,25 +218,25 @@ pub ruleset operands = (operand-direct-law, operand-33-law, operand-chain-law)
 
 -- THE FETCH, by every question
 module _ (m : Machine) (y : Accessed) (s : accessed (m .registers .dbr) (m .memory) (m .registers .ipr) (fetch-questions (m .registers .ipr)) y) where
-  pub fetch-faults : (n : ℕ) → y ≡ Refused n → (step m ≡ faults n (m .registers .ipr)) × (pointer-words m ≡ 0)
-  unfolding step step-program pointer-words
-  fetch-faults n e = (read-refused m (m .registers .ipr) _ y s _ n e, read-refused-counts m (m .registers .ipr) _ y s _ n e)
+  pub fetch-faults : (n : ℕ) → y ≡ Refused n → (plain-step m ≡ faults n (m .registers .ipr)) × (pointer-words m ≡ 0)
+  unfolding plain-step plain-program
+  fetch-faults n e = (read-refused m (m .registers .ipr) _ y s _ n e, plain-counts m ∙ read-refused-counts m (m .registers .ipr) _ y s _ n e)
 
   module _ (d : Descriptor) (w : ℕ) (e : y ≡ Word d w) where
-    pub fetch-obeys : step m ≡ execute m (obeyed-in m w)
-    unfolding step step-program
+    pub fetch-obeys : plain-step m ≡ execute m (obeyed-in m w)
+    unfolding plain-step plain-program
     fetch-obeys = read-passed m (m .registers .ipr) _ y s _ d w e
 
     pub fetch-counts : pointer-words m ≡ ticks m (obeyed-in m w)
-    unfolding pointer-words step-program
-    fetch-counts = read-passed-counts m (m .registers .ipr) _ y s _ d w e
+    unfolding plain-program
+    fetch-counts = plain-counts m ∙ read-passed-counts m (m .registers .ipr) _ y s _ d w e
 
     code-fetched : Code-right (d .0) (m .registers .ipr .ring) (length (m .memory))
     unfolding fetch-questions
     code-fetched = let h = rw e at s in executable-right _ (d .0) (h .looks .found .right) (m .registers .ipr) _ refl (ask-yes _ _ _ (h .looks .asked) .0)
 
     module _ (x : Address) (g : operand-formed m w x) where
-      pub form-bad : (n : ℕ) (t : Code.Pointer) (c : ℕ) → x ≡ Address.Bad n t c → (step m ≡ faults n (as-pointer t)) × (pointer-words m ≡ c)
+      pub form-bad : (n : ℕ) (t : Code.Pointer) (c : ℕ) → x ≡ Address.Bad n t c → (plain-step m ≡ faults n (as-pointer t)) × (pointer-words m ≡ c)
       form-bad n t c f = let h = rw f at g in (fetch-obeys ∙ h .0, fetch-counts ∙ h .1)
 
       pub form-ready : (t : Code.Pointer) (c : ℕ) → x ≡ Address.Good t c → Ready-to-perform m w t c × Code-right (d .0) (m .registers .ipr .ring) (length (m .memory))

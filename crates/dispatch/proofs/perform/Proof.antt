@@ -86,11 +86,11 @@ faulted-requires-3 c κs = search needs
 returns-3 : tie.Need-returns-3
 returns-3 c = rcu-refused _ _ _ _ _ _ _ _ (c .before .before .before .before .opcode .ensures) (c .before .before .before .match .keys20) (c .before .if3 .taken) _ (c .faulted3 .ensures) refl
 
-restore-requires : tie.Need-restore-requires
-restore-requires c κs = search needs
-
 faulted-requires-4 : tie.Need-faulted-requires-4
 faulted-requires-4 c κs = search needs
+
+faulted-requires-5 : tie.Need-faulted-requires-5
+faulted-requires-5 c κs = search needs
 
 same-length : tie.Need-same-length
 same-length c = search needs
@@ -197,14 +197,11 @@ returns-21 c = ldbr-arm _ _ _ _ _ _ _ _ (c .before .before .before .before .befo
 returns-22 : tie.Need-returns-22
 returns-22 c = hlt-arm _ _ _ _ _ _ _ _ (c .before .before .before .before .opcode .ensures) (c .before .before .before .match .keys19) (c .before .if2 .left) (c .halt .ensures)
 
-same-length-17 : tie.Need-same-length-17
-same-length-17 c = search needs
-
 returns-23 : tie.Need-returns-23
-returns-23 c = rcu-arm _ _ _ _ _ _ _ _ (c .before .before .before .before .before .before .opcode .ensures) (c .before .before .before .before .before .match .keys20) (c .before .before .before .if3 .left) _ (c .restore .ensures)
+returns-23 c = rcu-arm _ _ _ _ _ _ _ _ (c .before .before .before .before .opcode .ensures) (c .before .before .before .match .keys20) (c .before .if3 .left) _ (c .faulted4 .ensures) refl
 
 returns-24 : tie.Need-returns-24
-returns-24 c = unknown-arm _ _ _ _ _ _ _ _ (c .before .before .opcode .ensures) (c .before .match .rest) _ (c .faulted4 .ensures) refl
+returns-24 c = unknown-arm _ _ _ _ _ _ _ _ (c .before .before .opcode .ensures) (c .before .match .rest) _ (c .faulted5 .ensures) refl
 
 pub perform-spec : {M : Type 1} → statement M
 perform-spec =
@@ -237,8 +234,8 @@ perform-spec =
     halt-requires
     faulted-requires-3
     returns-3
-    restore-requires
     faulted-requires-4
+    faulted-requires-5
     same-length
     returns-4
     same-length-2
@@ -274,6 +271,5 @@ perform-spec =
     same-length-16
     returns-21
     returns-22
-    same-length-17
     returns-23
     returns-24)
