@@ -1,16 +1,21 @@
 -- The plain step beside the step: one law for every program, then a line an access. Assumes nothing.
-use mathlib.Core.Path.{_≡_, refl, sym, _∙_, ap}
+use mathlib.Core.Path.{_≡_, refl, sym, _∙_, ap, subst}
 use mathlib.Core.Bool.{Bool, true, false, _||_, not, cond}
 use mathlib.Core.Option.{Option, none, some}
 use Prim.Native.Nat.{ℕ, zero, suc}
 use lib.Dec.{eqb}
 use lib.ListN.{length}
 use Rattle.model.specs.Words.{Descriptor, Pointer, Instruction, instruction-in}
-use Rattle.model.specs.Registers.{Registers, Machine, dbr-in}
+use Rattle.model.specs.Registers.{Registers, Delivery, Machine, dbr-in}
 use Rattle.model.specs.Opcodes.{Access, sets, reads, writes, updates, transfers, calls, returns, loads-dbr, ends-run, restores, Opcode}
-use Rattle.model.specs.Questions.{Question, dbr-fits}
+use Rattle.model.specs.Questions.{Question, dbr-fits, start-questions}
 use Rattle.model.specs.Program.{Program, fail, finish, look, read, Outcome, faults, completes, halts, use-answer, or-fault, execute, unless-fault, ticks}
 use Rattle.model.specs.Step.{chain, with-operand, load, store, update, transfer, call, return, if-dbr-fits, load-dbr, restore, perform, obey, step-program, step, pointer-words}
+use Rattle.model.proofs.BranchLaws.{cond-holds}
+use Rattle.model.proofs.WordLaws.{Within}
+use Rattle.model.proofs.FitLaws.{Fit, Formed}
+use Rattle.model.proofs.SoundLaws.{passing-fits}
+use Rattle.model.proofs.FaultLaws.{Points, Fault-has, points-law, perform-points, operand-points}
 use Rattle.model.proofs.TickLaws.{perform-without-ticks}
 use Rattle.dispatch.specs.Plain.{plainly, obey-plainly, plain-program, plain-step, stopped}
 
@@ -109,3 +114,34 @@ module _ (m : Machine) where
 
   pub plain-stops : (n : ℕ) (t : Pointer) → plain-step m ≡ faults n t → step m ≡ execute m (stopped (length (m .memory)) n t)
   plain-stops n t e = rw e at follows
+
+-- THE POINTER at which a plain step stops is in range
+module _ {n : ℕ} {r : Registers} (h : Fit (λ _. Unit {0}) (λ _. Unit {0}) n r) where
+  plainly-points : (k : Access) (i : Instruction) (t : Pointer) → Formed r t → Points Within (plainly n k i r t)
+  unfolding plainly Points
+  plainly-points (sets f) i t g = perform-points h (sets f) i t g
+  plainly-points (reads f) i t g = perform-points h (reads f) i t g
+  plainly-points (writes f) i t g = perform-points h (writes f) i t g
+  plainly-points (updates f) i t g = perform-points h (updates f) i t g
+  plainly-points (transfers f) i t g = perform-points h (transfers f) i t g
+  plainly-points calls i t g = perform-points h calls i t g
+  plainly-points returns i t g = perform-points h returns i t g
+  plainly-points loads-dbr i t g = perform-points h loads-dbr i t g
+  plainly-points ends-run i t g = perform-points h ends-run i t g
+  plainly-points restores i t g = g .within
+
+  obey-points : (i : Instruction) (o : Option Opcode) → Points Within (obey-plainly n r i o)
+  unfolding obey-plainly Points
+  obey-points i none = h .pointers-fit .ipr-within
+  obey-points i (some o) =
+      cond-holds (Points Within) (not (o .privileged) || eqb (r .ipr .ring) 0)
+      (λ _. operand-points h o i _ (λ t g. plainly-points (o .access) i t g)) (λ _. h .pointers-fit .ipr-within)
+
+  plain-points : Points Within (plain-program n r)
+  unfolding plain-program Points
+  plain-points = (h .pointers-fit .ipr-within, λ d w b. obey-points (instruction-in w) _)
+
+pub stop-within : (v : Delivery) (m : Machine) (n : ℕ) (t : Pointer) → start-questions v m ≡ 0 → plain-step m ≡ faults n t → Within t
+unfolding plain-step
+stop-within v m n t e f =
+    subst (Fault-has Within) f (points-law Within m (plain-program (length (m .memory)) (m .registers)) (plain-points (passing-fits v m e tt tt)))

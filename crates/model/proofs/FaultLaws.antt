@@ -73,7 +73,7 @@ module _ {n : ℕ} {r : Registers} (h : Fit (λ _. Unit {0}) (λ _. Unit {0}) n 
   words-point zero t f w k = k _
   words-point (suc c) t f w k = (w, λ d v b. words-point c (moved-by 1 t) _ (moved-within 1 t w) (λ ws. k (v ∷ ws)))
 
-  perform-points : (k : Access) (i : Instruction) (t : Pointer) → Formed r t → Points Within (perform n k i r t)
+  pub perform-points : (k : Access) (i : Instruction) (t : Pointer) → Formed r t → Points Within (perform n k i r t)
   unfolding perform load store update transfer call return load-dbr restore Points
   perform-points (sets f) i t g = tt
   perform-points (reads f) i t g = (g .within, λ d w b. tt)
@@ -86,7 +86,7 @@ module _ {n : ℕ} {r : Registers} (h : Fit (λ _. Unit {0}) (λ _. Unit {0}) n 
   perform-points ends-run i t g = tt
   perform-points restores i t g = (g .within, λ d b. words-point 13 t _ (g .within) (λ ws. taken-points t _ (g .within)))
 
-  operand-points : (o : Opcode) (i : Instruction) (f : Pointer → Program) → ((t : Pointer) → Formed r t → Points Within (f t)) →
+  pub operand-points : (o : Opcode) (i : Instruction) (f : Pointer → Program) → ((t : Pointer) → Formed r t → Points Within (f t)) →
       Points Within (with-operand o i r f)
   unfolding with-operand
   operand-points o i f k =

@@ -1,26 +1,22 @@
-// A run under a budget: the loop around the step, and its trace. What a step does not take from the word that passed before
+// A run of plain steps under a budget: the loop around the step, and its trace. What a step does not take from the word that passed before
 // leaves the inner loop, so that the compiler lays it out of the way.
 ghost use mathlib.Core.Path.{_≡_};
 ghost use Prim.Native.Nat.{_≤_, _<_};
 ghost use lib.ListN.{length};
+ghost use Rattle.model.specs.Registers.{no-delivery};
 ghost use Rattle.model.specs.Questions.{start-questions};
-ghost use Rattle.model.specs.Run as Run;
 ghost use Rattle.words.specs.View.{as-pointer, Pointer-within};
 ghost use Rattle.segments.specs.Translation.{Code-right};
-ghost use Rattle.model.specs.Registers as Registers;
-ghost use Rattle.state.specs.View.{as-machine, as-delivery, Becomes};
+ghost use Rattle.state.specs.View.{as-machine};
 ghost use Rattle.processor.specs.Step.{Ready-to-perform, quickly-formed};
-ghost use Rattle.run.specs.Run.{Counted, Noted, Ran-as, Traced, Went-as, next-formed};
+ghost use Rattle.run.specs.Run.{plain-from, Counted, Noted, Ran-as, Traced, Went-as, next-formed};
 use processor::Formed;
 use processor::Prepared;
 use state::After;
 use state::Core;
-use state::Delivery;
 use state::End;
 use words::descriptor::Descriptor;
 use words::pointer::Pointer;
-use words::pointer::SegmentNumber;
-use words::pointer::WordNumber;
 
 // All that a run answers; the count is that of the completed steps.
 pub enum Reply {
@@ -62,7 +58,6 @@ fn note(trace: &mut [u64], count: u32, p: Pointer, pointers: u64)
 
 // The next instruction by the quick way, while the budget lasts.
 fn next(
-    delivery: Delivery,
     code: Descriptor,
     core: Core,
     prs: &[u16; 24],
@@ -70,7 +65,7 @@ fn next(
     count: u32,
     budget: u32,
 ) -> Prepared
-    requires { ⌜ (start-questions (as-delivery delivery) (as-machine core (now prs) (now memory)) ≡ 0) × Code-right (code .0) (core .ipr .ring) (length (now memory)) ⌝ }
+    requires { ⌜ (start-questions no-delivery (as-machine core (now prs) (now memory)) ≡ 0) × Code-right (code .0) (core .ipr .ring) (length (now memory)) ⌝ }
     ensures { λ x. ⌜ next-formed count budget (as-machine core (now (prs .entry)) (now (memory .entry))) x ⌝ }
 {
     if budget <= count {
@@ -81,7 +76,6 @@ fn next(
 
 // Steps from an instruction that is formed, as far as the quick way leads; the first alone has read pointer words.
 fn go_on(
-    delivery: Delivery,
     core: Core,
     code: Descriptor,
     prs: &mut [u16; 24],
@@ -93,8 +87,8 @@ fn go_on(
     budget: u32,
     trace: &mut [u64],
 ) -> Went
-    requires { ⌜ (start-questions (as-delivery delivery) (as-machine core (now prs) (now memory)) ≡ 0) × Ready-to-perform (as-machine core (now prs) (now memory)) first at read × Code-right (code .0) (core .ipr .ring) (length (now memory)) × (start < budget) ⌝ }
-    ensures { λ x. ⌜ Went-as (as-delivery delivery) budget start (as-machine core (now (prs .entry)) (now (memory .entry))) (now (trace .entry)) x (as-machine (x .core) (now (prs .exit)) (now (memory .exit))) (now (trace .exit)) ⌝ }
+    requires { ⌜ (start-questions no-delivery (as-machine core (now prs) (now memory)) ≡ 0) × Ready-to-perform (as-machine core (now prs) (now memory)) first at read × Code-right (code .0) (core .ipr .ring) (length (now memory)) × (start < budget) ⌝ }
+    ensures { λ x. ⌜ Went-as budget start (as-machine core (now (prs .entry)) (now (memory .entry))) (now (trace .entry)) x (as-machine (x .core) (now (prs .exit)) (now (memory .exit))) (now (trace .exit)) ⌝ }
 {
     let mut x = After {
         core,
@@ -136,7 +130,7 @@ fn go_on(
             }
         }
         count += 1;
-        match next(delivery, x.code, x.core, prs, memory, count, budget) {
+        match next(x.code, x.core, prs, memory, count, budget) {
             Prepared::No => {
                 going = false;
             }
@@ -157,103 +151,57 @@ fn go_on(
     }
 }
 
-// Steps from here on: the next one by every question, and those after it as far as the quick way leads.
-fn advance(
-    delivery: Delivery,
-    core: Core,
-    prs: &mut [u16; 24],
-    memory: &mut [u64],
-    start: u32,
-    budget: u32,
-    trace: &mut [u64],
-) -> Went
-    requires { ⌜ (start-questions (as-delivery delivery) (as-machine core (now prs) (now memory)) ≡ 0) × (start < budget) ⌝ }
-    ensures { λ x. ⌜ Went-as (as-delivery delivery) budget start (as-machine core (now (prs .entry)) (now (memory .entry))) (now (trace .entry)) x (as-machine (x .core) (now (prs .exit)) (now (memory .exit))) (now (trace .exit)) ⌝ }
-{
-    match processor::form(core, prs, memory) {
-        Formed::Bad(n, t, read) => Went {
-            core,
-            count: start,
-            end: End::Faulted(n, t),
-            read: 0,
-            last: read,
-        },
-        Formed::Ready(w, t, d, read) => {
-            go_on(
-                delivery,
-                core,
-                d,
-                prs,
-                memory,
-                w,
-                t,
-                read,
-                start,
-                budget,
-                trace,
-            )
-        }
-    }
-}
-
-// Where a delivered fault leads: ring 0, handler segment, word 0.
-fn handled(delivery: Delivery, core: Core) -> Core
-    ensures { λ x. ⌜ Becomes core (Registers.with-ipr (record { ring = 0; segment = delivery .handler; word = 0 })) x ⌝ }
-{
-    let p = Pointer {
-        ring: 0,
-        segment: SegmentNumber(delivery.handler as u64),
-        word: WordNumber(0),
-    };
-    state::with_ipr(core, p)
-}
-
 // Questions 1 to 4 were asked by the caller, and hold on from step to step.
 // A trace of at least the budget's length holds IPR after each completed step, and its pointer words; a run that needs none lends
 // an empty one.
 pub fn run(
-    delivery: Delivery,
     core: Core,
     prs: &mut [u16; 24],
     memory: &mut [u64],
     budget: u32,
     trace: &mut [u64],
 ) -> Ran
-    requires { ⌜ start-questions (as-delivery delivery) (as-machine core (now prs) (now memory)) ≡ 0 ⌝ }
-    ensures { λ x. ⌜ Ran-as (as-delivery delivery) (Run.run-from (as-delivery delivery) budget 0 (as-machine core (now (prs .entry)) (now (memory .entry)))) x (as-machine (x .core) (now (prs .exit)) (now (memory .exit))) × Traced (as-delivery delivery) budget (as-machine core (now (prs .entry)) (now (memory .entry))) x (now (trace .entry)) (now (trace .exit)) × Counted (as-delivery delivery) budget (as-machine core (now (prs .entry)) (now (memory .entry))) x ⌝ }
+    requires { ⌜ start-questions no-delivery (as-machine core (now prs) (now memory)) ≡ 0 ⌝ }
+    ensures { λ x. ⌜ Ran-as (plain-from budget 0 (as-machine core (now (prs .entry)) (now (memory .entry)))) x (as-machine (x .core) (now (prs .exit)) (now (memory .exit))) × Traced budget (as-machine core (now (prs .entry)) (now (memory .entry))) x (now (trace .entry)) (now (trace .exit)) × Counted budget (as-machine core (now (prs .entry)) (now (memory .entry))) x ⌝ }
 {
     let mut at = core;
     let mut count: u32 = 0;
     let mut total: u64 = 0;
     while count < budget {
-        let y = advance(delivery, at, prs, memory, count, budget, trace);
-        let end = y.end;
-        at = y.core;
-        count = y.count;
-        total += y.read;
-        match end {
-            End::Completed => {}
-            End::Halted => {
+        match processor::form(at, prs, memory) {
+            Formed::Bad(n, t, read) => {
                 return Ran {
-                    reply: Reply::Halted(count),
+                    reply: Reply::Fault(n, count, t),
                     core: at,
                     total,
-                    last: 0,
+                    last: read,
                 };
             }
-            End::Faulted(n, p) => {
-                if !frames::deliver::deliver(delivery, at, prs, memory, n, p) {
-                    return Ran {
-                        reply: Reply::Fault(n, count, p),
-                        core: at,
-                        total,
-                        last: y.last,
-                    };
+            Formed::Ready(w, t, d, read) => {
+                let y = go_on(at, d, prs, memory, w, t, read, count, budget, trace);
+                let end = y.end;
+                at = y.core;
+                count = y.count;
+                total += y.read;
+                match end {
+                    End::Completed => {}
+                    End::Halted => {
+                        return Ran {
+                            reply: Reply::Halted(count),
+                            core: at,
+                            total,
+                            last: 0,
+                        };
+                    }
+                    End::Faulted(n, p) => {
+                        return Ran {
+                            reply: Reply::Fault(n, count, p),
+                            core: at,
+                            total,
+                            last: y.last,
+                        };
+                    }
                 }
-                at = handled(delivery, at);
-                note(trace, count, at.ipr, y.last);
-                count += 1;
-                total += y.last;
             }
         }
     }
