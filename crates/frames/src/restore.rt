@@ -8,11 +8,12 @@ ghost use Rattle.model.specs.Questions.{rings-at-least, part-questions};
 ghost use Rattle.model.specs.Step as Step;
 ghost use Rattle.words.specs.View.{as-pointer};
 ghost use Rattle.segments.specs.Translation.{as-dbr, looked};
-ghost use Rattle.state.specs.View.{as-pointers, Ready, Does};
-ghost use Rattle.frames.specs.Frame.{Taken};
+ghost use Rattle.state.specs.declared.End.the-variants.{Faulted};
+ghost use Rattle.state.specs.View.{as-pointers, Ready};
+ghost use Rattle.frames.specs.Frame.{Ends-as, Taken};
+use crate::Settled;
 use segments::translate::Dbr;
 use segments::translate::Translated;
-use state::After;
 use state::Core;
 use state::End;
 use words::descriptor::Descriptor;
@@ -85,61 +86,59 @@ fn take_prs(prs: &mut [u16; 24], frame: &[u64])
     }
 }
 
-// A descriptor of no word that every ring may execute, so that the next fetch asks all.
-fn any_code() -> Descriptor
-    ensures { λ d. ⌜ d .0 ≡ 7309553301454848 ⌝ }
+fn faulted(core: Core, n: u8, t: Pointer) -> Settled
+    ensures { λ x. ⌜ x ≡ record { core = core; end = Faulted n t } ⌝ }
 {
-    Descriptor(7309553301454848)
+    Settled {
+        core,
+        end: End::Faulted(n, t),
+    }
 }
 
 // A, DBR, IPR and the PRs of a frame, 34 and 52 asked first.
 fn take_up(
     core: Core,
-    code: Descriptor,
     prs: &mut [u16; 24],
     frame: &[u64],
     words: usize,
     t: Pointer,
-) -> After
+) -> Settled
     requires { ⌜ length (now frame) ≡ 13 ⌝ }
-    ensures { λ x. ⌜ Taken core code (as-pointers (now (prs .entry))) words (now (frame .entry)) (as-pointer t) x (as-pointers (now (prs .exit))) ⌝ }
+    ensures { λ x. ⌜ Taken core (as-pointers (now (prs .entry))) words (now (frame .entry)) (as-pointer t) x (as-pointers (now (prs .exit))) ⌝ }
 {
     let dbr = operations::access::dbr_in(frame[3]);
     if !operations::access::is_dbr(dbr, words) {
-        return state::faulted(core, code, 34, t);
+        return faulted(core, 34, t);
     }
     let ipr = words::pointer::decode(frame[4]);
     if !are_at_least(ipr.ring, frame) {
-        return state::faulted(core, code, 52, t);
+        return faulted(core, 52, t);
     }
     take_prs(prs, frame);
-    After {
+    Settled {
         core: Core {
             a: frame[2],
             dbr,
             ipr,
         },
-        code: any_code(),
         end: End::Completed,
     }
 }
 
 pub fn restore(
     core: Core,
-    code: Descriptor,
     prs: &mut [u16; 24],
     memory: &[u64],
     t: Pointer,
-) -> After
+) -> Settled
     requires { ⌜ Ready core (now memory) ⌝ }
-    ensures { λ x. ⌜ Does core code (as-pointers (now (prs .entry))) (now (memory .entry)) (Step.restore (length (now (memory .entry))) (as-pointer t)) x (as-pointers (now (prs .exit))) (now (memory .entry)) ⌝ }
+    ensures { λ x. ⌜ Ends-as core (as-pointers (now (prs .entry))) (now (memory .entry)) (Step.restore (length (now (memory .entry))) (as-pointer t)) x (as-pointers (now (prs .exit))) (now (memory .entry)) ⌝ }
 {
     let dbr = core.dbr;
     match look(dbr, memory, t) {
-        Translated::Refused(n) => state::faulted(core, code, n, t),
+        Translated::Refused(n) => faulted(core, n, t),
         Translated::Passed(d) => take_up(
             core,
-            code,
             prs,
             frame_at(memory, d, t.word),
             memory.len(),

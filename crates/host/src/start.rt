@@ -4,6 +4,8 @@ ghost use mathlib.Core.Bool.{true};
 ghost use Prim.Native.Nat.{_-_, _*_, _<_, _≤_};
 ghost use lib.Bits.{bitAnd, bitOr};
 ghost use lib.Dec.{eqb};
+ghost use lib.ListN.{length};
+ghost use Rattle.model.specs.Registers.{no-delivery};
 ghost use Rattle.model.specs.Questions as Questions;
 ghost use Rattle.words.specs.View.{as-pointer};
 ghost use Rattle.state.specs.View.{as-pointers, as-machine, as-delivery, pr-of};
@@ -92,9 +94,19 @@ fn is_delivery(delivery: Delivery) -> bool
     (delivery.switch <= 1) & ((delivery.save <= 4095) & (delivery.handler <= 4095))
 }
 
-// 1 to 4: the number of the first no, or 0.
-pub fn start_answer(delivery: Delivery, core: Core, prs: &[u16; 24], memory: &[u64]) -> u8
-    ensures { λ n. ⌜ n ≡ Questions.start-questions (as-delivery delivery) (as-machine core (now (prs .entry)) (now (memory .entry))) ⌝ }
+// 1 and 2, where the switch and its segments have a no.
+pub fn delivery_refused(memory: &[u64]) -> u8
+    ensures { λ n. ⌜ n ≡ Questions.ask (Questions.memory-fits (length (now (memory .entry)))) 1 2 ⌝ }
+{
+    if 16777216 < memory.len() {
+        return 1;
+    }
+    2
+}
+
+// 1 to 4, but for 2 of the switch and its segments: the number of the first no, or 0.
+pub fn start_answer(core: Core, prs: &[u16; 24], memory: &[u64]) -> u8
+    ensures { λ n. ⌜ n ≡ Questions.start-questions no-delivery (as-machine core (now (prs .entry)) (now (memory .entry))) ⌝ }
 {
     if 16777216 < memory.len() {
         return 1;
@@ -106,9 +118,6 @@ pub fn start_answer(delivery: Delivery, core: Core, prs: &[u16; 24], memory: &[u
         return 2;
     }
     if 16777215 < core.dbr.address {
-        return 2;
-    }
-    if !is_delivery(delivery) {
         return 2;
     }
     if !are_at_least(core.ipr.ring, prs) {

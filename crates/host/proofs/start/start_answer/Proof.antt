@@ -23,29 +23,23 @@ returns-3 c = search (needs, start-answers)
 returns-4 : tie.Need-returns-4
 returns-4 c = search (needs, start-answers)
 
-is-delivery-requires : tie.Need-is-delivery-requires
-is-delivery-requires c κs = search needs
+are-at-least-requires : tie.Need-are-at-least-requires
+are-at-least-requires c κs = search (needs, eight-at-once)
 
 returns-5 : tie.Need-returns-5
 returns-5 c = search (needs, start-answers)
 
-are-at-least-requires : tie.Need-are-at-least-requires
-are-at-least-requires c κs = search (needs, eight-at-once)
-
 returns-6 : tie.Need-returns-6
 returns-6 c = search (needs, start-answers)
+
+add-if7 : tie.Need-add-if7
+add-if7 c = search needs
 
 returns-7 : tie.Need-returns-7
 returns-7 c = search (needs, start-answers)
 
-add-if8 : tie.Need-add-if8
-add-if8 c = search needs
-
 returns-8 : tie.Need-returns-8
 returns-8 c = search (needs, start-answers)
-
-returns-9 : tie.Need-returns-9
-returns-9 c = search (needs, start-answers)
 
 pub start-answer-spec : {M : Type 1} → statement M
 start-answer-spec =
@@ -57,11 +51,9 @@ start-answer-spec =
     prs-are-in-range-requires
     returns-3
     returns-4
-    is-delivery-requires
-    returns-5
     are-at-least-requires
+    returns-5
     returns-6
+    add-if7
     returns-7
-    add-if8
-    returns-8
-    returns-9)
+    returns-8)
