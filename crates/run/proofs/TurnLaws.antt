@@ -29,7 +29,7 @@ use Rattle.run.proofs.RunLaws.{prs-in-range, ready-passing, ipr-passing
 pub record Turning (b s r : ℕ) (m : Machine) (t₀ : List ℕ) (x : After) (prs memory trace : List ℕ) (w : ℕ) (t : Pointer) (p count : ℕ) (going : Bool) : Type 0 where
   -- the pointer words of the steps so far: none before the first, and after it all
   pub done : ℕ
-  pub way : On-the-way b s m t₀ count done (as-machine (x .core) prs memory) trace
+  pub way : On-the-way plain-step no-delivery b s m t₀ count done (as-machine (x .core) prs memory) trace
   pub code : Code-right (x .code .0) (x .core .ipr .ring) (length memory)
   pub ready : going ≡ true → (count < b) × Ready-to-perform (as-machine (x .core) prs memory) w t p
   pub done-before : going ≡ true → done + p ≡ r
@@ -47,7 +47,7 @@ pub turning-starts : (b s r : ℕ) (x : After) (prs memory trace : List ℕ) (w 
 turning-starts b s r x prs memory trace w t e y c h =
     record {
       done = 0;
-      way = way-starts b s _ trace (omega arith) e;
+      way = way-starts _ _ b s _ trace (omega arith) e;
       code = c;
       ready = λ _. (h, y);
       done-before = λ _. omega arith;
@@ -68,7 +68,7 @@ module _ (b s r : ℕ) (m : Machine) (t₀ : List ℕ) (x : After) (prs memory t
   -- the loop has stopped
   pub turn-ends : going ≡ false → Went-as b s m t₀ (record { core = x .core; count = count; end = Completed; read = r; last = 0 }) (as-machine (x .core) prs memory) trace
   turn-ends e =
-      record { led = (subst (λ d. On-the-way b s m t₀ count d (as-machine (x .core) prs memory) trace) (inv .done-after e) (inv .way), inv .moved e); read-within = inv .read-within }
+      record { led = (subst (λ d. On-the-way plain-step no-delivery b s m t₀ count d (as-machine (x .core) prs memory) trace) (inv .done-after e) (inv .way), inv .moved e); read-within = inv .read-within }
 
   module _ (e : going ≡ true) where
     pub turn-below : count < b
@@ -102,9 +102,9 @@ module _ (b s r : ℕ) (m : Machine) (t₀ : List ℕ) (x : After) (prs memory t
           let q = rw f at stepped in
           record {
             led = (
-              subst (λ d. At-the-end b s m t₀ (Run.Reply.fault n count (as-pointer p)) count d i (as-machine (y .core) prs-now memory-now) trace)
+              subst (λ d. At-the-end plain-step no-delivery b s m t₀ (Run.Reply.fault n count (as-pointer p)) count d i (as-machine (y .core) prs-now memory-now) trace)
                   (let h = inv .done-before e in let z : inv .done ≡ r - i = omega arith in z)
-                  (way-faults b s m t₀ count (inv .done) (as-machine (x .core) prs memory) trace (inv .way) turn-below i (inv .ready e .1 .counted) (as-machine (y .core) prs-now memory-now) n p (q .0) (q .1)),
+                  (way-faults _ _ b s m t₀ count (inv .done) (as-machine (x .core) prs memory) trace (inv .way) turn-below i (inv .ready e .1 .counted) (as-machine (y .core) prs-now memory-now) n p (q .0) (q .1)),
               fault-within (as-machine (x .core) prs memory) n p (inv .way .passes) (q .0),
             );
             read-within = let k = inv .read-within in omega arith;
@@ -114,12 +114,13 @@ module _ (b s r : ℕ) (m : Machine) (t₀ : List ℕ) (x : After) (prs memory t
         -- HLT
         pub turn-halts : y .end ≡ Halted →
             Went-as b s m t₀ (record { core = y .core; count = count + 1; end = Halted; read = r; last = 0 }) (as-machine (y .core) prs-now memory-now) trace-now
+        unfolding ended
         turn-halts f =
             record {
               led =
-                  subst (λ d. At-the-end b s m t₀ (Run.Reply.halted (count + 1)) (count + 1) d 0 (as-machine (y .core) prs-now memory-now) trace-now) (inv .done-before e)
-                  (way-halts b s m t₀ count (inv .done) (as-machine (x .core) prs memory) trace (inv .way) turn-below i (inv .ready e .1 .counted) (as-machine (y .core) prs-now memory-now) trace-now z
-                  (subst (λ o. ended (as-machine (x .core) prs memory) (plain-step (as-machine (x .core) prs memory)) o (as-machine (y .core) prs-now memory-now)) f stepped));
+                  subst (λ d. At-the-end plain-step no-delivery b s m t₀ (Run.Reply.halted (count + 1)) (count + 1) d 0 (as-machine (y .core) prs-now memory-now) trace-now) (inv .done-before e)
+                  (way-halts _ _ b s m t₀ count (inv .done) (as-machine (x .core) prs memory) trace (inv .way) turn-below i (inv .ready e .1 .counted) (as-machine (y .core) prs-now memory-now) trace-now z
+                  (subst (λ o. ended (as-machine (x .core) prs memory) (plain-step (as-machine (x .core) prs memory)) o (as-machine (y .core) prs-now memory-now)) f stepped) turn-passes);
               read-within = inv .read-within;
             }
 
@@ -131,11 +132,12 @@ module _ (b s r : ℕ) (m : Machine) (t₀ : List ℕ) (x : After) (prs memory t
               (rw f at stepped)
               (execute-keeps-size (as-machine (x .core) prs memory) (plain-program (length memory) (as-machine (x .core) prs memory .registers)))
 
-          way-next : On-the-way b s m t₀ (count + 1) r (as-machine (y .core) prs-now memory-now) trace-now
+          way-next : On-the-way plain-step no-delivery b s m t₀ (count + 1) r (as-machine (y .core) prs-now memory-now) trace-now
+          unfolding ended
           way-next =
-              subst (λ d. On-the-way b s m t₀ (count + 1) d (as-machine (y .core) prs-now memory-now) trace-now) (inv .done-before e)
-              (way-goes-on b s m t₀ count (inv .done) (as-machine (x .core) prs memory) trace (inv .way) turn-below i (inv .ready e .1 .counted) (as-machine (y .core) prs-now memory-now) trace-now z
-              (subst (λ o. ended (as-machine (x .core) prs memory) (plain-step (as-machine (x .core) prs memory)) o (as-machine (y .core) prs-now memory-now)) f stepped) size-kept)
+              subst (λ d. On-the-way plain-step no-delivery b s m t₀ (count + 1) d (as-machine (y .core) prs-now memory-now) trace-now) (inv .done-before e)
+              (way-goes-on _ _ b s m t₀ count (inv .done) (as-machine (x .core) prs memory) trace (inv .way) turn-below i (inv .ready e .1 .counted) (as-machine (y .core) prs-now memory-now) trace-now z
+              (subst (λ o. ended (as-machine (x .core) prs memory) (plain-step (as-machine (x .core) prs memory)) o (as-machine (y .core) prs-now memory-now)) f stepped) turn-passes size-kept)
 
           pub turn-code : Code-right (y .code .0) (y .core .ipr .ring) (length memory-now)
           turn-code = rw size-kept (h .code-kept (inv .code))

@@ -8,8 +8,9 @@ ghost use Rattle.model.specs.Questions.{start-questions};
 ghost use Rattle.words.specs.View.{as-pointer, Pointer-within};
 ghost use Rattle.segments.specs.Translation.{Code-right};
 ghost use Rattle.state.specs.View.{as-machine};
+ghost use Rattle.dispatch.specs.Plain.{plain-step};
 ghost use Rattle.processor.specs.Step.{Ready-to-perform, quickly-formed};
-ghost use Rattle.run.specs.Run.{plain-from, Counted, Noted, Ran-as, Traced, Went-as, next-formed};
+ghost use Rattle.run.specs.Run.{run-by, Counted, Noted, Ran-as, Traced, Went-as, next-formed};
 use processor::Formed;
 use processor::Prepared;
 use state::After;
@@ -162,7 +163,7 @@ pub fn run(
     trace: &mut [u64],
 ) -> Ran
     requires { ⌜ start-questions no-delivery (as-machine core (now prs) (now memory)) ≡ 0 ⌝ }
-    ensures { λ x. ⌜ Ran-as (plain-from budget 0 (as-machine core (now (prs .entry)) (now (memory .entry)))) x (as-machine (x .core) (now (prs .exit)) (now (memory .exit))) × Traced budget (as-machine core (now (prs .entry)) (now (memory .entry))) x (now (trace .entry)) (now (trace .exit)) × Counted budget (as-machine core (now (prs .entry)) (now (memory .entry))) x ⌝ }
+    ensures { λ x. ⌜ Ran-as no-delivery (run-by plain-step budget 0 (as-machine core (now (prs .entry)) (now (memory .entry)))) x (as-machine (x .core) (now (prs .exit)) (now (memory .exit))) × Traced plain-step budget (as-machine core (now (prs .entry)) (now (memory .entry))) x (now (trace .entry)) (now (trace .exit)) × Counted plain-step budget (as-machine core (now (prs .entry)) (now (memory .entry))) x ⌝ }
 {
     let mut at = core;
     let mut count: u32 = 0;
