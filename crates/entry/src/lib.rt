@@ -39,21 +39,54 @@ fn run_fields(
 {
     let base = host::record::to_base(dbr);
     let at = host::record::to_core(ipr);
+    let is_quick = single & (budget == 1) & host::start::is_delivery(delivery);
     let mut none: [u64; 0] = [];
-    let x = machine::run(
-        delivery,
-        a,
-        base.address,
-        base.length,
-        at.ring,
-        at.segment.0,
-        at.word.0,
-        prs,
-        memory,
-        budget, // of the run
-        &mut none,
-        single,
-    );
+    let mut x = if is_quick {
+        machine::plain::run(
+            a,
+            base.address,
+            base.length,
+            at.ring,
+            at.segment.0,
+            at.word.0,
+            prs,
+            memory,
+            1,
+            &mut none,
+            true,
+        )
+    } else {
+        machine::run(
+            a,
+            base.address,
+            base.length,
+            at.ring,
+            at.segment.0,
+            at.word.0,
+            prs,
+            memory,
+            budget, // of the run
+            &mut none,
+            delivery,
+            single,
+        )
+    };
+    if is_quick & (x.kind == 3) {
+        x = machine::run(
+            x.core.a,
+            x.core.dbr.address,
+            x.core.dbr.length,
+            x.core.ipr.ring,
+            x.core.ipr.segment.0,
+            x.core.ipr.word.0,
+            prs,
+            memory,
+            1,
+            &mut none,
+            delivery,
+            true,
+        );
+    }
     Answered {
         answer: Answer {
             kind: x.kind as u32,

@@ -1,2 +1,4 @@
--- What a run answers a host. Assumes nothing: these are definitions.
+-- What the contracts of this crate cite. Assumes nothing: these are definitions.
 pub mod Answered
+pub mod Plain
+pub mod Parts

@@ -1,8 +1,7 @@
-// 1 to 4, then a run: the host tests nothing first. Everything below is merged into this one function, the loop of steps with it.
-ghost use mathlib.Core.Bool.{cond};
+// 1 to 4, then a run: the host tests nothing first.
 ghost use mathlib.Core.Path.{_≡_};
-ghost use Prim.Native.Nat.{_+_, _^_, _<_};
-ghost use Rattle.state.specs.View.{as-delivery};
+ghost use Rattle.model.specs.Questions.{start-questions};
+ghost use Rattle.state.specs.View.{as-machine, as-delivery};
 ghost use Rattle.machine.specs.Answered.{core-of, Answered-as, Prepared-as};
 use answers::Answered;
 use answers::answer_of;
@@ -15,20 +14,39 @@ use words::pointer::Pointer;
 use words::pointer::SegmentNumber;
 use words::pointer::WordNumber;
 
-// A single step that faults has its own pointer words; a run leaves out those of the step at which it faults.
-fn counted(single: bool, total: u64, last: u64) -> u64
-    requires { ⌜ total + last < 2 ^ 64 ⌝ }
-    ensures { λ r. ⌜ r ≡ cond single (total + last) total ⌝ }
+mod parts;
+pub mod plain;
+
+// 1 to 4 alone: the number of the first no, or 0. It is a run of no steps, so that the one big function stays the only one that
+// asks them.
+fn ask(delivery: Delivery, core: Core, prs: &mut [u16; 24], memory: &mut [u64]) -> u8
+    ensures { λ n. ⌜ (n ≡ start-questions (as-delivery delivery) (as-machine core (now (prs .entry)) (now (memory .entry)))) × (as-machine core (now (prs .exit)) (now (memory .exit)) ≡ as-machine core (now (prs .entry)) (now (memory .entry))) ⌝ }
 {
-    if single {
-        return total + last;
+    if !host::start::is_delivery(delivery) {
+        return host::start::delivery_refused(memory);
     }
-    total
+    let mut none: [u64; 0] = [];
+    let x = plain::run(
+        core.a,
+        core.dbr.address,
+        core.dbr.length,
+        core.ipr.ring,
+        core.ipr.segment.0,
+        core.ipr.word.0,
+        prs,
+        memory,
+        0,
+        &mut none,
+        false,
+    );
+    if x.kind == 0 {
+        return x.number as u8;
+    }
+    0
 }
 
 // A, DBR and IPR come one by one, the PRs where the host has them. `single`: pointer words as a single step has them.
 pub fn run(
-    delivery: Delivery,
     a: u64,
     address: u64,
     length: u64,
@@ -39,6 +57,7 @@ pub fn run(
     memory: &mut [u64],
     budget: u32,
     trace: &mut [u64],
+    delivery: Delivery,
     single: bool,
 ) -> Answered
     ensures { λ x. ⌜ Answered-as (as-delivery delivery) single budget (core-of a address length ring segment word) (now (prs .entry)) (now (memory .entry)) (now (trace .entry)) x (now (prs .exit)) (now (memory .exit)) (now (trace .exit)) ⌝ }
@@ -52,14 +71,14 @@ pub fn run(
             word: WordNumber(word),
         },
     };
-    let n = host::start::start_answer(delivery, core, prs, memory);
+    let n = ask(delivery, core, prs, memory);
     if n != 0 {
         return answer_of(Reply::Refused(n), core, 0);
     }
-    let y = run::run(delivery, core, prs, memory, budget, trace);
+    let y = parts::run(delivery, core, prs, memory, budget, trace);
     let reply = y.reply;
     let after = y.core;
-    answer_of(reply, after, counted(single, y.total, y.last))
+    answer_of(reply, after, plain::counted(single, y.total, y.last))
 }
 
 // The number of the first no of 1 to 4, or 0; with 0 the core and its PRs are the record's.
@@ -69,38 +88,12 @@ pub struct Prepared {
     pub prs: [u16; 24],
 }
 
-// 1 to 4 alone, by a run of no steps, so that the one big function stays the only one that asks them.
+// 1 to 4 of a host's record.
 pub fn prepare(registers: Registers, memory: &mut [u64]) -> Prepared
     ensures { λ x. ⌜ Prepared-as registers (now (memory .entry)) x (now (memory .exit)) ⌝ }
 {
     let core = host::record::core_of(registers);
     let mut prs = registers.prs;
-    let mut none: [u64; 0] = [];
-    let x = run(
-        registers.delivery,
-        core.a,
-        core.dbr.address,
-        core.dbr.length,
-        core.ipr.ring,
-        core.ipr.segment.0,
-        core.ipr.word.0,
-        &mut prs,
-        memory,
-        0,
-        &mut none,
-        false,
-    );
-    let after = x.core;
-    if x.kind == 0 {
-        return Prepared {
-            number: x.number as u8,
-            core: after,
-            prs,
-        };
-    }
-    Prepared {
-        number: 0,
-        core: after,
-        prs,
-    }
+    let number = ask(registers.delivery, core, &mut prs, memory);
+    Prepared { number, core, prs }
 }

@@ -46,7 +46,7 @@ pub struct Went {
 }
 
 // IPR after a step and its pointer words, at the step's place in the trace; a step past the trace's end leaves it alone.
-fn note(trace: &mut [u64], count: u32, p: Pointer, pointers: u64)
+pub fn note(trace: &mut [u64], count: u32, p: Pointer, pointers: u64)
     requires { ⌜ Pointer-within p × (pointers ≤ 64) ⌝ }
     ensures { λ _. ⌜ Noted count (record { ipr = as-pointer p; pointers = pointers }) (now (trace .entry)) (now (trace .exit)) ⌝ }
 {
