@@ -2,3 +2,4 @@
 pub mod SaveLaws
 pub mod FrameLaws
 pub mod TakeLaws
+pub mod SettleLaws

@@ -1,37 +1,35 @@
 -- RCU: a frame looked at, tested and taken up. Assumes nothing.
 use mathlib.Core.Path.{_≡_, refl, sym, _∙_, ap, ap₂, subst}
-use mathlib.Core.Bool.{Bool, true, false, not, _&&_, cond}
+use mathlib.Core.Bool.{Bool, true, false, not, _&&_}
 use mathlib.Core.List.{List, [], _∷_, map}
 use Prim.Native.Nat.{ℕ, zero, suc, _+_, _-_, _≤_, _<_}
 use native.Mathlib.Numerals.{add-one}
 use native.Mathlib.Omega.{arith}
-use lib.Dec.{leb, lit≤}
-use lib.ListN.{length, getD, set, take, drop, length-drop, length-map}
+use lib.Dec.{leb}
+use lib.ListN.{length, getD, set, take, drop, length-drop}
 use lib.Seq.{take-length, getD-drop, length-take-le}
 use borrow.Author.Tests.{le-ltb, lt-ltb, ltb-true, lt-leb, le-leb, not-true, not-false}
 use Rattle.model.specs.Words as Words
 use Rattle.model.specs.Words.{Pointer, descriptor-in, pointer-in}
 use Rattle.model.specs.Registers.{Dbr, Registers, machine, dbr-in}
-use Rattle.model.specs.Questions.{ask, then-ask, all, rings-at-least, dbr-fits, segment-questions, word-questions, use-questions, may-execute, may-read, read-questions, part-questions}
-use Rattle.model.specs.Program.{Program, finish, fail, execute, descriptor-of, absolute-address}
+use Rattle.model.specs.Questions.{ask, then-ask, all, rings-at-least, dbr-fits, word-questions, may-read, read-questions, part-questions}
+use Rattle.model.specs.Program.{Program, finish, fail, faults, completes, execute, descriptor-of, absolute-address}
 use Rattle.model.specs.Step as Step
-use Rattle.model.proofs.BranchLaws.{and-both}
 use Rattle.model.proofs.QuestionLaws.{ask-yes, then-ask-yes, use-passes-segment}
-use Rattle.model.proofs.WordLaws.{pointer-in-within}
 use Rattle.model.proofs.DeliveredLaws.{restored}
-use Rattle.words.specs.View.{as-pointer, Pointer-within, Decoded-pointer}
+use Rattle.words.specs.View.{as-pointer, Decoded-pointer}
 use Rattle.words.specs.declared.descriptor.Descriptor.{Descriptor}
 use Rattle.words.specs.declared.pointer.Pointer as Code
-use Rattle.segments.specs.Translation.{as-dbr, descriptor-word, descriptor-answer, use-at, Passes, translated, Looks, looked, Code-right}
+use Rattle.segments.specs.Translation.{as-dbr, descriptor-word, use-at, translated, Looks, looked}
 use Rattle.segments.specs.declared.translate.Translated.{Translated}
 use Rattle.segments.specs.declared.translate.Translated.the-variants.{Refused, Passed}
 use Rattle.segments.specs.declared.translate.Dbr as Code-dbr
-use Rattle.state.specs.View.{pointers-in, as-pointers, registers-with, machine-with, Does, faulted-after}
+use Rattle.segments.proofs.UseLaws.{look-refused}
+use Rattle.state.specs.View.{pointers-in, as-pointers, registers-with, machine-with, ended}
 use Rattle.state.specs.declared.Core.{Core}
-use Rattle.state.specs.declared.After.{After}
-use Rattle.state.specs.declared.End.the-variants.{Completed}
-use Rattle.state.proofs.DoesLaws.{does-fault, does-complete, does-as, does-refused-look}
-use Rattle.frames.specs.Frame.{Taken}
+use Rattle.state.specs.declared.End.the-variants.{Completed, Faulted}
+use Rattle.frames.specs.declared.Settled.{Settled}
+use Rattle.frames.specs.Frame.{Ends-as, Taken}
 
 -- 15 OF THE LAST WORD, then 22
 module _ (t : Pointer) (d l : ℕ) (e : l ≡ descriptor-in d .length) where
@@ -182,24 +180,32 @@ executed : (k : Registers) (m : List ℕ) (size : ℕ) (t : Pointer) (r : Regist
 unfolding Step.take-up Step.if-dbr-fits
 executed k m size t r e f = rw (e, f)
 
--- no word, and every ring executes
-pub any-code-right : (word ring size : ℕ) → word ≡ 7309553301454848 → ring ≤ 7 → Code-right word ring size
-unfolding descriptor-answer segment-questions ask descriptor-in Words.field Words.on may-execute
-any-code-right w n size e h =
-    rw e (record { passes = rw (le-leb 0 size (omega arith)); executable = λ t f. rw f (rw (le-leb 0 n (omega arith), le-leb n 7 h)) })
+-- HOW A PROGRAM ENDS: a fault, or registers and no write
+abbrev pub fault-of : Core → (number : ℕ) → Code.Pointer → Settled
+fault-of c n t = record { core = c; end = Faulted n t }
 
-module _ (c : Core) (code : Descriptor) (ps : List Pointer) (size : ℕ) (f : List ℕ) (t : Pointer) (v : Code-dbr.Dbr) (g : as-dbr v ≡ dbr-in (getD f 3 0))
-    (b : Bool) (h : b ≡ dbr-fits size (as-dbr v)) (x : After) where
+module _ (c : Core) (ps : List Pointer) (m : List ℕ) (p : Program) (x : Settled) where
+  ends-fault : (n : ℕ) (t : Code.Pointer) → x ≡ fault-of c n t → execute (machine-with c ps m) p ≡ faults n (as-pointer t) → Ends-as c ps m p x ps m
+  unfolding ended
+  ends-fault n t e f = rw e (record { ends = (f, refl) })
+
+  ends-complete : (us : List Pointer) (k : Core) → x ≡ record { core = k; end = Completed } → (r : Registers) → registers-with k us ≡ r →
+      execute (machine-with c ps m) p ≡ completes (machine r m) → Ends-as c ps m p x us m
+  unfolding ended machine
+  ends-complete us k e r f g = rw e (record { ends = g ∙ ap (λ z. completes (record { registers = z; memory = m })) (sym f) })
+
+module _ (c : Core) (ps : List Pointer) (size : ℕ) (f : List ℕ) (t : Pointer) (v : Code-dbr.Dbr) (g : as-dbr v ≡ dbr-in (getD f 3 0))
+    (b : Bool) (h : b ≡ dbr-fits size (as-dbr v)) (x : Settled) where
   fits-as : (a : Bool) → b ≡ a → dbr-fits size (Step.registers-in f .dbr) ≡ a
   unfolding Step.registers-in
   fits-as a e = ap (dbr-fits size) (sym g) ∙ sym h ∙ e
 
-  pub frame-unfit : (u : Code.Pointer) → not b ≡ true → x ≡ faulted-after c code 34 u → as-pointer u ≡ t → Taken c code ps size f t x ps
+  pub frame-unfit : (u : Code.Pointer) → not b ≡ true → x ≡ fault-of c 34 u → as-pointer u ≡ t → Taken c ps size f t x ps
   unfolding execute machine
   frame-unfit u i j k =
       record {
-        does = λ m _.
-            does-fault c code ps m _ x 34 u j
+        ends = λ m _.
+            ends-fault c ps m _ x 34 u j
             (executed-34 (registers-with c ps) m size t (Step.registers-in f) (fits-as false (not-true b i)) ∙ rw k);
       }
 
@@ -208,26 +214,24 @@ module _ (c : Core) (code : Descriptor) (ps : List Pointer) (size : ℕ) (f : Li
     unfolding Step.registers-in
     rings-as a e = ap (λ (z : Pointer). rings-at-least (z .ring) (map pointer-in (take 8 (drop 5 f)))) (sym (d .same)) ∙ sym q ∙ e
 
-    pub frame-below : (u : Code.Pointer) → not r ≡ true → x ≡ faulted-after c code 52 u → as-pointer u ≡ t → Taken c code ps size f t x ps
+    pub frame-below : (u : Code.Pointer) → not r ≡ true → x ≡ fault-of c 52 u → as-pointer u ≡ t → Taken c ps size f t x ps
     unfolding execute machine
     frame-below u j k l =
         record {
-          does = λ m _.
-              does-fault c code ps m _ x 52 u k
+          ends = λ m _.
+              ends-fault c ps m _ x 52 u k
               (executed-52 (registers-with c ps) m size t (Step.registers-in f) (fits-as true (not-false b i)) (rings-as false (not-true r j)) ∙ rw l);
         }
 
-    pub frame-taken : not r ≡ false → (us : List Pointer) → us ≡ map pointer-in (take 8 (drop 5 f)) → (w : Descriptor) → w .0 ≡ 7309553301454848 →
-        x ≡ record { core = record { a = getD f 2 0; dbr = v; ipr = p }; code = w; end = Completed } → Taken c code ps size f t x us
+    pub frame-taken : not r ≡ false → (us : List Pointer) → us ≡ map pointer-in (take 8 (drop 5 f)) →
+        x ≡ record { core = record { a = getD f 2 0; dbr = v; ipr = p }; end = Completed } → Taken c ps size f t x us
     unfolding execute machine Step.registers-in
-    frame-taken j us k w l e =
+    frame-taken j us k e =
         record {
-          does = λ m _.
-              rw e
-              (does-complete c code ps m _ _ us m refl (Step.registers-in f)
+          ends = λ m _.
+              ends-complete c ps m _ x us _ e (Step.registers-in f)
               (λ n. record { a = getD f 2 0; dbr = g n; ipr = d .same n; prs = k n })
-              (executed (registers-with c ps) m size t (Step.registers-in f) (fits-as true (not-false b i)) (rings-as true (not-false r j)))
-              (λ _. any-code-right (w .0) (p .ring) (length m) l (d .within .ring-within)));
+              (executed (registers-with c ps) m size t (Step.registers-in f) (fits-as true (not-false b i)) (rings-as true (not-false r j)));
         }
 
 pub ruleset takings = (frame-unfit, frame-below, frame-taken)
@@ -252,25 +256,29 @@ module _ (b : Dbr) (m : List ℕ) (p : Code.Pointer) (y : Translated) (d : Descr
       ap length g ∙ length-take-le 13 (drop (descriptor-in (d .0) .address + p .word .0) m) (omega (arith, x, z, l))
 
 -- RCU
-module _ (c : Core) (code : Descriptor) (ps : List Pointer) (m : List ℕ) (t : Pointer) (y : Translated)
-    (s : looked (as-dbr (c .dbr)) m t (part-questions 13 t) y) (x : After) where
-  pub restore-refused : (n : ℕ) (u : Code.Pointer) → y ≡ Refused n → x ≡ faulted-after c code n u → as-pointer u ≡ t → Does c code ps m (Step.restore (length m) t) x ps m
+module _ (c : Core) (ps : List Pointer) (m : List ℕ) (t : Pointer) (y : Translated)
+    (s : looked (as-dbr (c .dbr)) m t (part-questions 13 t) y) (x : Settled) where
+  pub restore-refused : (n : ℕ) (u : Code.Pointer) → y ≡ Refused n → x ≡ fault-of c n u → as-pointer u ≡ t → Ends-as c ps m (Step.restore (length m) t) x ps m
   unfolding Step.restore
-  restore-refused n u e f h = does-refused-look c code ps m t _ y s _ n u e x f h
+  restore-refused n u e f h = ends-fault c ps m _ x n u f (look-refused (machine-with c ps m) t _ y s _ n e ∙ ap (faults n) (sym h))
 
   pub restore-taken : (e : Descriptor) → y ≡ Passed e → (f : List ℕ) → f ≡ take 13 (drop (descriptor-in (e .0) .address + t .word) m) → (us : List Pointer) →
-      Taken c code ps (length m) f t x us → Does c code ps m (Step.restore (length m) t) x us m
+      Taken c ps (length m) f t x us → Ends-as c ps m (Step.restore (length m) t) x us m
   unfolding part-questions word-questions use-at absolute-address descriptor-of descriptor-word
   restore-taken e g f h us k =
       let l = rw g at s in
       let d = l .found .same in
       let asked = then-ask-yes _ _ (l .asked) in
       let whole = ltb-true (t .word + 13 - 1) (descriptor-in (e .0) .length) (ask-yes _ _ _ (asked .0) .0) in
-      does-as c code ps m _ x us m _
-      (restored (machine-with c ps m) t (use-passes-segment _ _ _ _ (l .found .passes)) (rw (← d) (asked .1))
-      (let z = ap (λ w. descriptor-in w .length) d in omega (arith, z, whole))
-      ∙ ap (λ ws. execute (machine-with c ps m) (Step.take-up (length m) t (Step.registers-in ws)))
-      (ap (λ w. take 13 (drop (descriptor-in w .address + t .word) m)) (sym d) ∙ sym h))
-      (k .does m refl)
+      record {
+        ends =
+            subst (λ z. ended (machine-with c ps m) z (x .end) (machine-with (x .core) us m))
+            (sym
+            (restored (machine-with c ps m) t (use-passes-segment _ _ _ _ (l .found .passes)) (rw (← d) (asked .1))
+            (let z = ap (λ w. descriptor-in w .length) d in omega (arith, z, whole))
+            ∙ ap (λ ws. execute (machine-with c ps m) (Step.take-up (length m) t (Step.registers-in ws)))
+            (ap (λ w. take 13 (drop (descriptor-in w .address + t .word) m)) (sym d) ∙ sym h)))
+            (k .ends m refl .ends);
+      }
 
 pub ruleset restorings = (restore-refused, restore-taken, frame-within, segment-fits, thirteen-words)

@@ -96,13 +96,7 @@ fn faulted(core: Core, n: u8, t: Pointer) -> Settled
 }
 
 // A, DBR, IPR and the PRs of a frame, 34 and 52 asked first.
-fn take_up(
-    core: Core,
-    prs: &mut [u16; 24],
-    frame: &[u64],
-    words: usize,
-    t: Pointer,
-) -> Settled
+fn take_up(core: Core, prs: &mut [u16; 24], frame: &[u64], words: usize, t: Pointer) -> Settled
     requires { ⌜ length (now frame) ≡ 13 ⌝ }
     ensures { λ x. ⌜ Taken core (as-pointers (now (prs .entry))) words (now (frame .entry)) (as-pointer t) x (as-pointers (now (prs .exit))) ⌝ }
 {
@@ -125,24 +119,13 @@ fn take_up(
     }
 }
 
-pub fn restore(
-    core: Core,
-    prs: &mut [u16; 24],
-    memory: &[u64],
-    t: Pointer,
-) -> Settled
+pub fn restore(core: Core, prs: &mut [u16; 24], memory: &[u64], t: Pointer) -> Settled
     requires { ⌜ Ready core (now memory) ⌝ }
     ensures { λ x. ⌜ Ends-as core (as-pointers (now (prs .entry))) (now (memory .entry)) (Step.restore (length (now (memory .entry))) (as-pointer t)) x (as-pointers (now (prs .exit))) (now (memory .entry)) ⌝ }
 {
     let dbr = core.dbr;
     match look(dbr, memory, t) {
         Translated::Refused(n) => faulted(core, n, t),
-        Translated::Passed(d) => take_up(
-            core,
-            prs,
-            frame_at(memory, d, t.word),
-            memory.len(),
-            t,
-        ),
+        Translated::Passed(d) => take_up(core, prs, frame_at(memory, d, t.word), memory.len(), t),
     }
 }

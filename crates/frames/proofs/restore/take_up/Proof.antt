@@ -37,11 +37,8 @@ returns-2 c = search (needs, takings)
 take-prs-requires : tie.Need-take-prs-requires
 take-prs-requires c κs = search (needs, takings)
 
-shared-slice-read-t10 : tie.Need-shared-slice-read-t10
-shared-slice-read-t10 c = search (needs, takings)
-
-any-code-requires : tie.Need-any-code-requires
-any-code-requires c κs = search (needs, takings)
+shared-slice-read-t9 : tie.Need-shared-slice-read-t9
+shared-slice-read-t9 c = search (needs, takings)
 
 returns-3 : tie.Need-returns-3
 returns-3 c = search (needs, takings)
@@ -61,6 +58,5 @@ take-up-spec =
     faulted-requires-2
     returns-2
     take-prs-requires
-    shared-slice-read-t10
-    any-code-requires
+    shared-slice-read-t9
     returns-3)
