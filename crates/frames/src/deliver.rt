@@ -6,6 +6,7 @@ ghost use Rattle.model.specs.Deliver.{frame, with-words};
 ghost use Rattle.words.specs.View.{as-pointer, Pointer-within};
 ghost use Rattle.state.specs.View.{as-registers, as-machine, as-delivery, Ready};
 ghost use Rattle.frames.specs.Frame.{Savable, saves, Delivers};
+use questions::Use;
 use segments::translate::Dbr;
 use segments::translate::Translated;
 use state::Core;
@@ -21,7 +22,8 @@ enum Saves {
     In(Descriptor),
 }
 
-// Switch on, 11 to 14, 15 of a thirteenth word, and W on; no ring is asked.
+// Switch on, 11 to 14, 15 of a thirteenth word, and W on. 23 is asked for ring 0, which is in every write bracket, so that no ring
+// is refused.
 fn save_segment(delivery: Delivery, core: Core, memory: &[u64]) -> Saves
     requires { ⌜ Ready core (now memory) ⌝ }
     ensures { λ x. ⌜ saves (as-delivery delivery) core (now (memory .entry)) x ⌝ }
@@ -35,14 +37,9 @@ fn save_segment(delivery: Delivery, core: Core, memory: &[u64]) -> Saves
         segment: SegmentNumber(delivery.save as u64),
         word: WordNumber(12),
     };
-    match segments::translate::translate(dbr, memory, last) {
+    match segments::access::look(Use::Write, dbr, memory, last, last) {
         Translated::Refused(_n) => Saves::No,
-        Translated::Passed(d) => {
-            if !words::descriptor::is_write_on(d) {
-                return Saves::No;
-            }
-            Saves::In(d)
-        }
+        Translated::Passed(d) => Saves::In(d),
     }
 }
 

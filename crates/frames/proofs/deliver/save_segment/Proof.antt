@@ -10,8 +10,8 @@ returns c = search (needs, save-answers)
 cast-t9 : tie.Need-cast-t9
 cast-t9 c = search (needs, save-answers)
 
-translate-requires : tie.Need-translate-requires
-translate-requires c κs = search (needs, save-answers)
+look-requires : tie.Need-look-requires
+look-requires c κs = search (needs, save-answers)
 
 enum-known--n : tie.Need-enum-known--n
 enum-known--n c = search (needs, save-answers)
@@ -19,17 +19,11 @@ enum-known--n c = search (needs, save-answers)
 enum-known-d : tie.Need-enum-known-d
 enum-known-d c = search (needs, save-answers)
 
-is-write-on-requires : tie.Need-is-write-on-requires
-is-write-on-requires c κs = search (needs, save-answers)
-
 returns-2 : tie.Need-returns-2
 returns-2 c = search (needs, save-answers)
 
 returns-3 : tie.Need-returns-3
 returns-3 c = search (needs, save-answers)
-
-returns-4 : tie.Need-returns-4
-returns-4 c = search (needs, save-answers)
 
 pub save-segment-spec : {M : Type 1} → statement M
 save-segment-spec =
@@ -37,10 +31,8 @@ save-segment-spec =
     (tie.spec
     returns
     cast-t9
-    translate-requires
+    look-requires
     enum-known--n
     enum-known-d
-    is-write-on-requires
     returns-2
-    returns-3
-    returns-4)
+    returns-3)
