@@ -39,9 +39,9 @@ fn run_fields(
 {
     let base = host::record::to_base(dbr);
     let at = host::record::to_core(ipr);
-    let is_quick = single & (budget == 1) & host::start::is_delivery(delivery);
+    let is_step = single & (budget == 1);
     let mut none: [u64; 0] = [];
-    let mut x = if is_quick {
+    let mut x = if is_step & host::start::is_delivery(delivery) {
         machine::plain::run(
             a,
             base.address,
@@ -71,7 +71,7 @@ fn run_fields(
             single,
         )
     };
-    if is_quick & (x.kind == 3) {
+    if is_step & (x.kind == 3) {
         x = machine::run(
             x.core.a,
             x.core.dbr.address,

@@ -88,7 +88,7 @@ fn are_at_least(ring: u64, prs: &[u16; 24]) -> bool
 }
 
 // 2 of the switch and its segments.
-fn is_delivery(delivery: Delivery) -> bool
+pub fn is_delivery(delivery: Delivery) -> bool
     ensures { λ r. ⌜ r ≡ Questions.delivery-in-range (as-delivery delivery) ⌝ }
 {
     (delivery.switch <= 1) & ((delivery.save <= 4095) & (delivery.handler <= 4095))
