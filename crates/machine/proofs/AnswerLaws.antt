@@ -1,63 +1,69 @@
 -- The whole answer, refused or run, with its pointer words. Assumes nothing.
 use mathlib.Core.Path.{_≡_, refl, sym, _∙_, ap, ap₂, subst}
 use mathlib.Core.Bool.{Bool, true, false, cond}
-use mathlib.Core.List.{List}
-use Prim.Native.Nat.{ℕ, zero, suc, _+_, _^_, _≤_, _<_}
+use mathlib.Core.List.{List, _∷_}
+use Prim.Native.Nat.{ℕ, zero, suc, _+_, _≤_, _<_}
 use native.Mathlib.Omega.{arith}
-use lib.Dec.{leb}
 use lib.ListN.{length, take}
-use borrow.Author.Tests.{leb-true}
-use Rattle.model.specs.Registers.{Delivery, Machine}
+use Rattle.model.specs.Registers.{Delivery, no-delivery, Machine}
 use Rattle.model.specs.Answers.{Numbers, reply-numbers}
-use Rattle.model.specs.Questions.{all, pointer-in-range, registers-in-range, dbr-fits, start-questions}
+use Rattle.model.specs.Questions.{delivery-in-range, start-questions}
+use Rattle.model.specs.Program.{Outcome, faults, completes, halts}
+use Rattle.model.specs.Step.{pointer-words}
+use Rattle.model.specs.Deliver.{step-with}
 use Rattle.model.specs.Run as Run
-use Rattle.model.specs.Run.{ran, run-from, run, total, total-of, fault-count}
-use Rattle.model.proofs.BranchLaws.{and-left, and-right}
-use Rattle.model.proofs.QuestionLaws.{ask-yes}
+use Rattle.model.specs.Run.{ran, run-from, run, trace-from, total, total-of, fault-count-from, fault-count}
+use Rattle.model.proofs.SoundLaws.{delivery-passes}
+use Rattle.model.proofs.DeliveredLaws.{same-start}
 use Rattle.model.proofs.RunLaws.{run-refused, run-goes, trace-refused, trace-goes}
-use Rattle.model.proofs.TickLaws.{fault-count-goes, fault-count-refused, fault-count-within}
-use Rattle.model.proofs.CountLaws.{run-counts}
-use Rattle.model.proofs.CountedLaws.{total-within}
-use Rattle.words.specs.View.{as-pointer}
-use Rattle.state.specs.View.{as-pointers, as-machine}
+use Rattle.model.proofs.TickLaws.{fault-count-goes, fault-count-refused}
+use Rattle.state.specs.View.{as-machine}
 use Rattle.state.specs.declared.Core.{Core}
 use Rattle.host.specs.Record.{In-record}
-use Rattle.run.specs.Run.{as-reply, noted-steps, Ran-as, Traced, Counted}
+use Rattle.run.specs.Run.{run-by, trace-by, last-by, as-reply, noted-steps, Ran-as, Traced, Counted}
 use Rattle.run.specs.declared.Ran.{Ran}
 use Rattle.run.specs.declared.Reply.the-variants as Reply
-use Rattle.run.proofs.RunLaws.{ipr-passing}
 use Rattle.answers.specs.Answer.{Answers-with}
 use Rattle.answers.specs.declared.Answered.{Answered}
 use Rattle.answers.proofs.AnswerLaws.{count-completed}
 use Rattle.machine.specs.Answered.{pointers-read, Answered-as}
-
--- POINTER WORDS as a single step or as a run
-module _ (single : Bool) (t l : ℕ) where
-  pub counted-single : single ≡ true → t + l ≡ cond single (t + l) t
-  counted-single e = rw e
-
-  pub counted-run : single ≡ false → t ≡ cond single (t + l) t
-  counted-run e = rw e
-
-pub ruleset counts = (counted-single, counted-run)
+use Rattle.machine.proofs.PlainLaws.{passing-in-record}
 
 module _ (dv : Delivery) where
-  passing-in-record : (c : Core) (prs m : List ℕ) → start-questions dv (as-machine c prs m) ≡ 0 → In-record c
-  unfolding start-questions registers-in-range dbr-fits
-  passing-in-record c prs m e =
-      let h = ipr-passing dv c prs m e in
-      let a = ask-yes _ _ _ e in
-      let b = ask-yes _ _ _ (a .1) in
-      let d = ask-yes _ _ _ (b .1) in
-      let address : c .dbr .address ≤ 16777215 = leb-true _ _ (and-left (leb (c .dbr .address) 16777215) _ (and-right (all pointer-in-range (as-pointers prs)) _ (and-right (pointer-in-range (as-pointer (c .ipr))) _ (b .0)))) in
-      let size : c .dbr .length ≤ 4096 = leb-true _ _ (and-left (leb (c .dbr .length) 4096) (leb (c .dbr .address + c .dbr .length) (length m)) (ask-yes _ _ _ (d .1) .0)) in
-      record {
-        ring-fits = let z = h .ring-within in omega arith;
-        segment-fits = let z = h .segment-within in omega arith;
-        word-fits = h .word-within;
-        address-fits = omega arith;
-        length-fits = omega arith;
-      }
+  -- THE DEFINITION'S RUN is the run by its step
+  pub same-run : (b c : ℕ) (m : Machine) → run-from dv b c m ≡ run-by (step-with dv) b c m
+  unfolding run-from run-by Run.run-on
+  same-run zero c m = refl
+  same-run (suc b) c m = by-outcome (step-with dv m) (λ k. same-run b (suc c) k)
+    where
+      by-outcome : (x : Outcome) → ((k : Machine) → run-from dv b (suc c) k ≡ run-by (step-with dv) b (suc c) k) → Run.run-on c m x (λ k. run-from dv b (suc c) k) ≡ Run.run-on c m x (λ k. run-by (step-with dv) b (suc c) k)
+      by-outcome (faults n t) h = refl
+      by-outcome (halts k) h = refl
+      by-outcome (completes k) h = h k
+
+  pub same-trace : (b : ℕ) (m : Machine) → trace-from dv b m ≡ trace-by (step-with dv) b m
+  unfolding trace-from trace-by Run.trace-on
+  same-trace zero m = refl
+  same-trace (suc b) m = by-outcome (step-with dv m) (λ k. same-trace b k)
+    where
+      by-outcome : (x : Outcome) → ((k : Machine) → trace-from dv b k ≡ trace-by (step-with dv) b k) → Run.trace-on (pointer-words m) x (λ k. trace-from dv b k) ≡ Run.trace-on (pointer-words m) x (λ k. trace-by (step-with dv) b k)
+      by-outcome (faults n t) h = refl
+      by-outcome (halts k) h = refl
+      by-outcome (completes k) h = ap (λ l. Run.traced k (pointer-words m) ∷ l) (h k)
+
+  same-last : (b : ℕ) (m : Machine) → fault-count-from dv b m ≡ last-by (step-with dv) b m
+  unfolding fault-count-from last-by Run.fault-count-on
+  same-last zero m = refl
+  same-last (suc b) m = by-outcome (step-with dv m) (λ k. same-last b k)
+    where
+      by-outcome : (x : Outcome) → ((k : Machine) → fault-count-from dv b k ≡ last-by (step-with dv) b k) → Run.fault-count-on (pointer-words m) x (λ k. fault-count-from dv b k) ≡ Run.fault-count-on (pointer-words m) x (λ k. last-by (step-with dv) b k)
+      by-outcome (faults n t) h = refl
+      by-outcome (halts k) h = refl
+      by-outcome (completes k) h = h k
+
+  -- 1 to 4 pass without the switch and its segments too
+  pub plainly-passes : (m : Machine) → start-questions dv m ≡ 0 → start-questions no-delivery m ≡ 0
+  plainly-passes m e = sym (same-start dv no-delivery (delivery-passes dv m e) (unfold delivery-in-range in refl) m) ∙ e
 
   -- a refused run reads none
   none-read : (single : Bool) (b n : ℕ) (m : Machine) → n ≡ start-questions dv m → (n ≡ 0 → ⊥) → 0 ≡ pointers-read dv single b m
@@ -69,27 +75,26 @@ module _ (dv : Delivery) where
       by-kind true g h = omega (arith, g, h)
       by-kind false g h = sym g
 
-  module _ (b : ℕ) (m : Machine) (e : start-questions dv m ≡ 0) (y : Ran) (k : Counted dv b m y) where
+  module _ (b : ℕ) (m : Machine) (e : start-questions dv m ≡ 0) (y : Ran) (k : Counted (step-with dv) b m y) where
     total-here : y .total ≡ total dv b m
     unfolding total
-    total-here = k .total-same ∙ ap total-of (sym (trace-goes dv b m e))
+    total-here = k .total-same ∙ ap total-of (sym (trace-goes dv b m e ∙ same-trace b m))
 
     last-here : y .last ≡ fault-count dv b m
-    last-here = k .last-same ∙ sym (fault-count-goes dv b m e)
-
-    pub sum-fits : b ≤ 4294967295 → y .total + y .last < 2 ^ 64
-    sum-fits h = omega (arith, total-within dv b m, run-counts dv b m .0, fault-count-within dv b m, total-here, last-here)
+    last-here = k .last-same ∙ sym (fault-count-goes dv b m e ∙ same-last b m)
 
     some-read : (single : Bool) (r : ℕ) → r ≡ cond single (y .total + y .last) (y .total) → r ≡ pointers-read dv single b m
     some-read single r f = f ∙ ap₂ (λ t l. cond single (t + l) t) total-here last-here
 
-  module _ (single : Bool) (b : ℕ) (c : Core) (prs memory trace : List ℕ) (n : ℕ) (e : n ≡ start-questions dv (as-machine c prs memory)) (x : Answered) where
-    pub refused-whole : (n ≡ 0 → ⊥) → Answers-with (Reply.Refused n) c 0 x → Answered-as dv single b c prs memory trace x prs memory trace
+  -- 1 to 4 were asked, which left the machine as it was
+  module _ (single : Bool) (b : ℕ) (c : Core) (prs memory trace : List ℕ) (n : ℕ) (e : n ≡ start-questions dv (as-machine c prs memory)) (prs-then memory-then : List ℕ)
+      (left : as-machine c prs-then memory-then ≡ as-machine c prs memory) (x : Answered) where
+    pub refused-whole : (n ≡ 0 → ⊥) → Answers-with (Reply.Refused n) c 0 x → Answered-as dv single b c prs memory trace x prs-then memory-then trace
     unfolding ran
     refused-whole h a =
         record {
           numbers-same = a .numbers-same ∙ ap (λ (y : Run.Ran). reply-numbers (y .reply)) (sym refuses);
-          machine-same = ap (λ d. as-machine d prs memory) (a .core-same) ∙ ap (λ (y : Run.Ran). y .machine) (sym refuses);
+          machine-same = ap (λ d. as-machine d prs-then memory-then) (a .core-same) ∙ left ∙ ap (λ (y : Run.Ran). y .machine) (sym refuses);
           fits = a .fits;
           core-fits = λ f. subst In-record (sym (a .core-same)) f;
           passes = λ z. absurd (h (e ∙ z));
@@ -105,22 +110,27 @@ module _ (dv : Delivery) where
         refuses : run dv b (as-machine c prs memory) ≡ ran (Run.Reply.refused n) (as-machine c prs memory)
         refuses = by-number (as-machine c prs memory) n e h
 
-    pub run-whole : n ≡ 0 → (y : Ran) (prs-now memory-now trace-now : List ℕ) → Ran-as dv (run-from dv b 0 (as-machine c prs memory)) y (as-machine (y .core) prs-now memory-now) →
-        Traced dv b (as-machine c prs memory) y trace trace-now → Counted dv b (as-machine c prs memory) y → (r : ℕ) → r ≡ cond single (y .total + y .last) (y .total) →
-        Answers-with (y .reply) (y .core) r x → Answered-as dv single b c prs memory trace x prs-now memory-now trace-now
+    pub still-passes : n ≡ 0 → start-questions dv (as-machine c prs-then memory-then) ≡ 0
+    still-passes z = ap (start-questions dv) left ∙ sym e ∙ z
+
+    pub run-whole : n ≡ 0 → (y : Ran) (prs-now memory-now trace-now : List ℕ) → Ran-as dv (run-by (step-with dv) b 0 (as-machine c prs-then memory-then)) y (as-machine (y .core) prs-now memory-now) →
+        Traced (step-with dv) b (as-machine c prs-then memory-then) y trace trace-now → Counted (step-with dv) b (as-machine c prs-then memory-then) y → (r : ℕ) →
+        r ≡ cond single (y .total + y .last) (y .total) → Answers-with (y .reply) (y .core) r x → Answered-as dv single b c prs memory trace x prs-now memory-now trace-now
     unfolding ran
     run-whole z y prs-now memory-now trace-now r t k i f a =
-        let goes : run dv b (as-machine c prs memory) ≡ ran (as-reply (y .reply)) (as-machine (y .core) prs-now memory-now) = run-goes dv b (as-machine c prs memory) (sym e ∙ z) ∙ r .same in
+        let m = as-machine c prs memory in
+        let goes : run dv b m ≡ ran (as-reply (y .reply)) (as-machine (y .core) prs-now memory-now) = run-goes dv b m (sym e ∙ z) ∙ same-run b 0 m ∙ ap (run-by (step-with dv) b 0) (sym left) ∙ r .same in
         let again : start-questions dv (as-machine (x .core) prs-now memory-now) ≡ 0 = subst (λ d. start-questions dv (as-machine d prs-now memory-now) ≡ 0) (sym (a .core-same)) (r .passes) in
         record {
           numbers-same = a .numbers-same ∙ ap (λ (y : Run.Ran). reply-numbers (y .reply)) (sym goes);
           machine-same = ap (λ d. as-machine d prs-now memory-now) (a .core-same) ∙ ap (λ (y : Run.Ran). y .machine) (sym goes);
           fits = a .fits;
-          core-fits = λ _. passing-in-record (x .core) prs-now memory-now again;
+          core-fits = λ _. passing-in-record (x .core) prs-now memory-now (plainly-passes _ again);
           passes = λ _. again;
           trace-size = t .size-same;
           traced =
               λ _ room.
-              ap (λ k. noted-steps (take k trace-now)) (ap (λ (q : Numbers). q .count) (a .numbers-same) ∙ count-completed (y .reply)) ∙ t .traced room;
-          pointers-same = a .pointers-same ∙ some-read b (as-machine c prs memory) (sym e ∙ z) y k single i f;
+              ap (λ k. noted-steps (take k trace-now)) (ap (λ (q : Numbers). q .count) (a .numbers-same) ∙ count-completed (y .reply)) ∙ t .traced room
+              ∙ ap (trace-by (step-with dv) b) left ∙ sym (same-trace b m);
+          pointers-same = a .pointers-same ∙ some-read b m (sym e ∙ z) y (subst (λ q. Counted (step-with dv) b q y) left k) single i f;
         }

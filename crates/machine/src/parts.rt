@@ -22,7 +22,7 @@ use words::pointer::Pointer;
 
 // How a part ends: the run's reply so far, its completed steps, the pointer words of this part's, and of the step at which the run
 // faults; and whether it is the run's last.
-struct Part {
+struct PartEnd {
     core: Core,
     reply: Reply,
     count: u32,
@@ -96,7 +96,7 @@ fn stop(
     read: u64,
     budget: u32,
     trace: &mut [u64],
-) -> Part
+) -> PartEnd
     requires { ⌜ (start-questions (as-delivery delivery) (as-machine core (now prs) (now memory)) ≡ 0) × (plain-step (as-machine core (now prs) (now memory)) ≡ faults number (as-pointer t)) × Pointer-within t × (count < budget) × (read ≤ 64 * count) ⌝ }
     ensures { λ x. ⌜ Part-as (as-delivery delivery) budget count read (as-machine core (now (prs .entry)) (now (memory .entry))) (now (trace .entry)) x (as-machine (x .core) (now (prs .exit)) (now (memory .exit))) (now (trace .exit)) ⌝ }
 {
@@ -107,7 +107,7 @@ fn stop(
     match end {
         End::Completed => {
             run::note(trace, count, after.ipr, last);
-            Part {
+            PartEnd {
                 core: after,
                 reply: Reply::Spent(count + 1),
                 count: count + 1,
@@ -118,7 +118,7 @@ fn stop(
         }
         End::Halted => {
             run::note(trace, count, after.ipr, last);
-            Part {
+            PartEnd {
                 core: after,
                 reply: Reply::Halted(count + 1),
                 count: count + 1,
@@ -127,7 +127,7 @@ fn stop(
                 is_last: true,
             }
         }
-        End::Faulted(n, p) => Part {
+        End::Faulted(n, p) => PartEnd {
             core: after,
             reply: Reply::Fault(n, count, p),
             count,
@@ -147,14 +147,14 @@ fn part(
     count: u32,
     budget: u32,
     trace: &mut [u64],
-) -> Part
+) -> PartEnd
     requires { ⌜ (start-questions (as-delivery delivery) (as-machine core (now prs) (now memory)) ≡ 0) × (count ≤ budget) ⌝ }
     ensures { λ x. ⌜ Part-as (as-delivery delivery) budget count 0 (as-machine core (now (prs .entry)) (now (memory .entry))) (now (trace .entry)) x (as-machine (x .core) (now (prs .exit)) (now (memory .exit))) (now (trace .exit)) ⌝ }
 {
     let x = steps(core, prs, memory, count, budget, trace);
     let after = x.core;
     match answers::reply_of(x) {
-        Reply::Refused(n) => Part {
+        Reply::Refused(n) => PartEnd {
             core: after,
             reply: Reply::Refused(n),
             count,
@@ -162,7 +162,7 @@ fn part(
             last: 0,
             is_last: true,
         },
-        Reply::Spent(c) => Part {
+        Reply::Spent(c) => PartEnd {
             core: after,
             reply: Reply::Spent(count + c),
             count: count + c,
@@ -170,7 +170,7 @@ fn part(
             last: 0,
             is_last: true,
         },
-        Reply::Halted(c) => Part {
+        Reply::Halted(c) => PartEnd {
             core: after,
             reply: Reply::Halted(count + c),
             count: count + c,
