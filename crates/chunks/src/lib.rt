@@ -90,7 +90,6 @@ fn put_chunk(
 {
     let mut trace: [u64; 256] = [0; 256];
     let y = machine::run(
-        delivery,
         core.a,
         core.dbr.address,
         core.dbr.length,
@@ -101,6 +100,7 @@ fn put_chunk(
         memory,
         steps,
         &mut trace,
+        delivery,
         false,
     );
     let reply = answers::reply_of(y);

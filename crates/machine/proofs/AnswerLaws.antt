@@ -51,7 +51,7 @@ module _ (dv : Delivery) where
       by-outcome (halts k) h = refl
       by-outcome (completes k) h = ap (λ l. Run.traced k (pointer-words m) ∷ l) (h k)
 
-  same-last : (b : ℕ) (m : Machine) → fault-count-from dv b m ≡ last-by (step-with dv) b m
+  pub same-last : (b : ℕ) (m : Machine) → fault-count-from dv b m ≡ last-by (step-with dv) b m
   unfolding fault-count-from last-by Run.fault-count-on
   same-last zero m = refl
   same-last (suc b) m = by-outcome (step-with dv m) (λ k. same-last b k)
@@ -66,7 +66,7 @@ module _ (dv : Delivery) where
   plainly-passes m e = sym (same-start dv no-delivery (delivery-passes dv m e) (unfold delivery-in-range in refl) m) ∙ e
 
   -- a refused run reads none
-  none-read : (single : Bool) (b n : ℕ) (m : Machine) → n ≡ start-questions dv m → (n ≡ 0 → ⊥) → 0 ≡ pointers-read dv single b m
+  pub none-read : (single : Bool) (b n : ℕ) (m : Machine) → n ≡ start-questions dv m → (n ≡ 0 → ⊥) → 0 ≡ pointers-read dv single b m
   unfolding total total-of
   none-read single b zero m e f = absurd (f refl)
   none-read single b (suc n) m e f = by-kind single (ap total-of (trace-refused dv b n m (sym e))) (fault-count-refused dv b n m (sym e))

@@ -2,3 +2,5 @@
 pub mod PlainLaws
 pub mod AnswerLaws
 pub mod AskLaws
+pub mod FollowLaws
+pub mod SingleLaws

@@ -1,6 +1,6 @@
 // A run with its faults delivered and its frames taken up, in parts: plain steps, and the step at which they stop.
 ghost use mathlib.Core.Path.{_≡_};
-ghost use Prim.Native.Nat.{_≤_, _<_};
+ghost use Prim.Native.Nat.{_*_, _≤_, _<_};
 ghost use Rattle.model.specs.Registers.{no-delivery};
 ghost use Rattle.model.specs.Questions.{start-questions};
 ghost use Rattle.model.specs.Program.{faults};
