@@ -1,3 +1,4 @@
 -- What the proofs of this crate share. Assumes nothing.
 pub mod InPlace
 pub mod CallLaws
+pub mod StepLaws

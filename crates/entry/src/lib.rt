@@ -1,8 +1,10 @@
 // A call on a register record and a memory that the host lends: a run, or a single step.
-ghost use Rattle.entry.specs.Call.{together, Call-says};
+ghost use Rattle.state.specs.View.{as-delivery};
+ghost use Rattle.entry.specs.Call.{together, Core-says, Call-says};
 use host::record::DescriptorBase;
 use host::record::Pointer;
 use host::record::Registers;
+use state::Core;
 use state::Delivery;
 
 // An answer as numbers. Kinds: 0 refused, 1 spent or completed, 2 halted, 3 fault; what a kind leaves free is 0. Pointer words are
@@ -24,31 +26,28 @@ struct Answered {
     pub ipr: Pointer,
 }
 
-// A run on the parts of a record, as one or as a single step: its PRs are lent, the rest comes and goes by value.
-fn run_fields(
+// A run, or a single step. A step is a plain one, which the compiler merges into the entry; only where that stops is it asked again,
+// as a run of one step that may deliver its fault. Nothing has changed then.
+fn run_core(
     prs: &mut [u16; 24],
     memory: &mut [u64],
-    a: u64,
-    dbr: DescriptorBase,
-    ipr: Pointer,
+    core: Core,
     delivery: Delivery,
     budget: u32,
     single: bool,
-) -> Answered
-    ensures { λ x. ⌜ Call-says single budget (together a dbr ipr delivery (now (prs .entry))) (now (memory .entry)) (x .answer) (together (x .a) (x .dbr) (x .ipr) delivery (now (prs .exit))) (now (memory .exit)) ⌝ }
+) -> answers::Answered
+    ensures { λ x. ⌜ Core-says (as-delivery delivery) single budget core (now (prs .entry)) (now (memory .entry)) x (now (prs .exit)) (now (memory .exit)) ⌝ }
 {
-    let base = host::record::to_base(dbr);
-    let at = host::record::to_core(ipr);
     let is_step = single & (budget == 1);
     let mut none: [u64; 0] = [];
     let mut x = if is_step & host::start::is_delivery(delivery) {
         machine::plain::run(
-            a,
-            base.address,
-            base.length,
-            at.ring,
-            at.segment.0,
-            at.word.0,
+            core.a,
+            core.dbr.address,
+            core.dbr.length,
+            core.ipr.ring,
+            core.ipr.segment.0,
+            core.ipr.word.0,
             prs,
             memory,
             1,
@@ -57,15 +56,15 @@ fn run_fields(
         )
     } else {
         machine::run(
-            a,
-            base.address,
-            base.length,
-            at.ring,
-            at.segment.0,
-            at.word.0,
+            core.a,
+            core.dbr.address,
+            core.dbr.length,
+            core.ipr.ring,
+            core.ipr.segment.0,
+            core.ipr.word.0,
             prs,
             memory,
-            budget, // of the run
+            budget,
             &mut none,
             delivery,
             single,
@@ -87,6 +86,30 @@ fn run_fields(
             true,
         );
     }
+    x
+}
+
+// A run on the parts of a record, as one or as a single step: its PRs are lent, the rest comes and goes by value.
+fn run_fields(
+    prs: &mut [u16; 24],
+    memory: &mut [u64],
+    a: u64,
+    dbr: DescriptorBase,
+    ipr: Pointer,
+    delivery: Delivery,
+    budget: u32,
+    single: bool,
+) -> Answered
+    ensures { λ x. ⌜ Call-says single budget (together a dbr ipr delivery (now (prs .entry))) (now (memory .entry)) (x .answer) (together (x .a) (x .dbr) (x .ipr) delivery (now (prs .exit))) (now (memory .exit)) ⌝ }
+{
+    let base = host::record::to_base(dbr);
+    let at = host::record::to_core(ipr);
+    let core = Core {
+        a,
+        dbr: base,
+        ipr: at,
+    };
+    let x = run_core(prs, memory, core, delivery, budget, single);
     Answered {
         answer: Answer {
             kind: x.kind as u32,
