@@ -1,3 +1,7 @@
 -- Laws of this crate. Assumes nothing.
 pub mod AnswerLaws
 pub mod AskLaws
+pub mod FollowLaws
+pub mod StopLaws
+pub mod PartLaws
+pub mod PartingLaws

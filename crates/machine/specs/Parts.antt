@@ -15,7 +15,7 @@ use Rattle.dispatch.specs.Plain.{plain-step}
 use Rattle.run.specs.Run.{run-by, trace-by, as-reply, Reply-within, completed, noted-steps, On-the-way, At-the-end}
 use Rattle.answers.specs.Answer.{as-numbers, Answer-fits}
 use Rattle.answers.specs.declared.Answered.{Answered}
-use Rattle.machine.specs.declared.parts.Part.{Part}
+use Rattle.machine.specs.declared.parts.PartEnd.{PartEnd}
 
 -- the plain step stops there
 pub record At-a-stop (m : Machine) : Type 0 where
@@ -35,7 +35,7 @@ pub record Steps-as (budget count : ℕ) (m : Machine) (trace : List ℕ) (x : A
   pub pointers-same : x .pointers ≡ Run.total-of (trace-by plain-step (budget - count) m)
 
 -- a part of a run from count on, of which so many pointer words were read before: all that is to come follows, or it is at its end
-pub record Part-as (v : Delivery) (budget count before : ℕ) (m : Machine) (trace : List ℕ) (x : Part) (k : Machine) (trace-now : List ℕ) : Type 0 where
+pub record Part-as (v : Delivery) (budget count before : ℕ) (m : Machine) (trace : List ℕ) (x : PartEnd) (k : Machine) (trace-now : List ℕ) : Type 0 where
   pub words : ℕ
   pub read-same : x .read ≡ before + words
   pub goes-on : x .«is_last» ≡ false → On-the-way (step-with v) v budget count m trace (x .count) words k trace-now × (count < x .count)

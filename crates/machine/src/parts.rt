@@ -1,6 +1,6 @@
 // A run with its faults delivered and its frames taken up, in parts: plain steps, and the step at which they stop.
 ghost use mathlib.Core.Path.{_≡_};
-ghost use Prim.Native.Nat.{_≤_, _<_};
+ghost use Prim.Native.Nat.{_*_, _≤_, _<_};
 ghost use Rattle.model.specs.Registers.{no-delivery};
 ghost use Rattle.model.specs.Questions.{start-questions};
 ghost use Rattle.model.specs.Program.{faults};
@@ -22,13 +22,24 @@ use words::pointer::Pointer;
 
 // How a part ends: the run's reply so far, its completed steps, the pointer words of this part's, and of the step at which the run
 // faults; and whether it is the run's last.
-struct Part {
+struct PartEnd {
     core: Core,
     reply: Reply,
     count: u32,
     read: u64,
     last: u64,
     is_last: bool,
+}
+
+// Where the step after `count` others is noted; the end, where there is no room.
+fn place_in(size: usize, count: u32) -> usize
+    ensures { λ r. ⌜ (r ≤ size) × (count ≤ size → r ≡ count) ⌝ }
+{
+    let i = count as usize;
+    if size < i {
+        return size;
+    }
+    i
 }
 
 // Plain steps of a run from `count` on, noted in the rest of its trace.
@@ -43,10 +54,7 @@ fn steps(
     requires { ⌜ (start-questions no-delivery (as-machine core (now prs) (now memory)) ≡ 0) × (count ≤ budget) ⌝ }
     ensures { λ x. ⌜ Steps-as budget count (as-machine core (now (prs .entry)) (now (memory .entry))) (now (trace .entry)) x (as-machine (x .core) (now (prs .exit)) (now (memory .exit))) (now (trace .exit)) ⌝ }
 {
-    let mut start = count as usize;
-    if trace.len() < start {
-        start = trace.len();
-    }
+    let start = place_in(trace.len(), count);
     crate::plain::run(
         core.a,
         core.dbr.address,
@@ -96,7 +104,7 @@ fn stop(
     read: u64,
     budget: u32,
     trace: &mut [u64],
-) -> Part
+) -> PartEnd
     requires { ⌜ (start-questions (as-delivery delivery) (as-machine core (now prs) (now memory)) ≡ 0) × (plain-step (as-machine core (now prs) (now memory)) ≡ faults number (as-pointer t)) × Pointer-within t × (count < budget) × (read ≤ 64 * count) ⌝ }
     ensures { λ x. ⌜ Part-as (as-delivery delivery) budget count read (as-machine core (now (prs .entry)) (now (memory .entry))) (now (trace .entry)) x (as-machine (x .core) (now (prs .exit)) (now (memory .exit))) (now (trace .exit)) ⌝ }
 {
@@ -107,7 +115,7 @@ fn stop(
     match end {
         End::Completed => {
             run::note(trace, count, after.ipr, last);
-            Part {
+            PartEnd {
                 core: after,
                 reply: Reply::Spent(count + 1),
                 count: count + 1,
@@ -118,7 +126,7 @@ fn stop(
         }
         End::Halted => {
             run::note(trace, count, after.ipr, last);
-            Part {
+            PartEnd {
                 core: after,
                 reply: Reply::Halted(count + 1),
                 count: count + 1,
@@ -127,7 +135,7 @@ fn stop(
                 is_last: true,
             }
         }
-        End::Faulted(n, p) => Part {
+        End::Faulted(n, p) => PartEnd {
             core: after,
             reply: Reply::Fault(n, count, p),
             count,
@@ -147,14 +155,14 @@ fn part(
     count: u32,
     budget: u32,
     trace: &mut [u64],
-) -> Part
+) -> PartEnd
     requires { ⌜ (start-questions (as-delivery delivery) (as-machine core (now prs) (now memory)) ≡ 0) × (count ≤ budget) ⌝ }
     ensures { λ x. ⌜ Part-as (as-delivery delivery) budget count 0 (as-machine core (now (prs .entry)) (now (memory .entry))) (now (trace .entry)) x (as-machine (x .core) (now (prs .exit)) (now (memory .exit))) (now (trace .exit)) ⌝ }
 {
     let x = steps(core, prs, memory, count, budget, trace);
     let after = x.core;
     match answers::reply_of(x) {
-        Reply::Refused(n) => Part {
+        Reply::Refused(n) => PartEnd {
             core: after,
             reply: Reply::Refused(n),
             count,
@@ -162,7 +170,7 @@ fn part(
             last: 0,
             is_last: true,
         },
-        Reply::Spent(c) => Part {
+        Reply::Spent(c) => PartEnd {
             core: after,
             reply: Reply::Spent(count + c),
             count: count + c,
@@ -170,7 +178,7 @@ fn part(
             last: 0,
             is_last: true,
         },
-        Reply::Halted(c) => Part {
+        Reply::Halted(c) => PartEnd {
             core: after,
             reply: Reply::Halted(count + c),
             count: count + c,
@@ -205,8 +213,15 @@ pub fn run(
     requires { ⌜ start-questions (as-delivery delivery) (as-machine core (now prs) (now memory)) ≡ 0 ⌝ }
     ensures { λ x. ⌜ Ran-as (as-delivery delivery) (run-by (step-with (as-delivery delivery)) budget 0 (as-machine core (now (prs .entry)) (now (memory .entry)))) x (as-machine (x .core) (now (prs .exit)) (now (memory .exit))) × Traced (step-with (as-delivery delivery)) budget (as-machine core (now (prs .entry)) (now (memory .entry))) x (now (trace .entry)) (now (trace .exit)) × Counted (step-with (as-delivery delivery)) budget (as-machine core (now (prs .entry)) (now (memory .entry))) x ⌝ }
 {
-    let mut x = part(delivery, core, prs, memory, 0, budget, trace);
-    let mut total = x.read;
+    let mut x = PartEnd {
+        core,
+        reply: Reply::Spent(0),
+        count: 0,
+        read: 0,
+        last: 0,
+        is_last: false,
+    };
+    let mut total = 0;
     while !x.is_last {
         x = part(delivery, x.core, prs, memory, x.count, budget, trace);
         total += x.read;

@@ -121,15 +121,15 @@ module _ (f : Machine → Outcome) (dv : Delivery) where
 
   -- POINTER WORDS of a step
   module _ (b : ℕ) (m : Machine) where
-    last-faults : (n : ℕ) (t : Words.Pointer) → f m ≡ faults n t → last-by f (suc b) m ≡ pointer-words m
+    pub last-faults : (n : ℕ) (t : Words.Pointer) → f m ≡ faults n t → last-by f (suc b) m ≡ pointer-words m
     unfolding last-by Run.fault-count-on
     last-faults n t e = rw e refl
 
-    last-halts : (k : Machine) → f m ≡ halts k → last-by f (suc b) m ≡ 0
+    pub last-halts : (k : Machine) → f m ≡ halts k → last-by f (suc b) m ≡ 0
     unfolding last-by Run.fault-count-on
     last-halts k e = rw e refl
 
-    last-completes : (k : Machine) → f m ≡ completes k → last-by f (suc b) m ≡ last-by f b k
+    pub last-completes : (k : Machine) → f m ≡ completes k → last-by f (suc b) m ≡ last-by f b k
     unfolding last-by Run.fault-count-on
     last-completes k e = rw e refl
 
