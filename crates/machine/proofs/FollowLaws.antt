@@ -4,7 +4,6 @@ use mathlib.Core.List.{[], _∷_, _++_}
 use Prim.Native.Nat.{ℕ, zero, suc, _+_, _-_, _*_, _≤_, _<_}
 use native.Mathlib.Omega.{arith}
 use lib.ListN.{length}
-use Rattle.model.specs.Words.{Pointer}
 use Rattle.model.specs.Registers.{Delivery, no-delivery, Machine}
 use Rattle.model.specs.Questions.{delivery-in-range, start-questions}
 use Rattle.model.specs.Program.{Outcome, faults, completes, halts}
@@ -65,7 +64,7 @@ module _ (v : Delivery) where
   followed j b c m (Run.Reply.fault i n t) k = (n < c + b) × (plain-step k ≡ faults i t) × Ahead j b c m n k
 
   -- no step
-  ahead-here : (j b c : ℕ) (m : Machine) → (plain-traced-none : trace-by plain-step b m ≡ []) → Ahead j b c m c m
+  ahead-here : (j b c : ℕ) (m : Machine) → trace-by plain-step b m ≡ [] → Ahead j b c m c m
   unfolding total-of
   ahead-here j b c m e =
       let left : b ≡ c + b - c = omega arith in

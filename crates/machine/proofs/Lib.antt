@@ -3,4 +3,7 @@ pub mod PlainLaws
 pub mod AnswerLaws
 pub mod AskLaws
 pub mod FollowLaws
+pub mod StopLaws
+pub mod PartLaws
+pub mod PartingLaws
 pub mod SingleLaws

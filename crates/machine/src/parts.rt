@@ -31,6 +31,17 @@ struct PartEnd {
     is_last: bool,
 }
 
+// Where the step after `count` others is noted; the end, where there is no room.
+fn place_in(size: usize, count: u32) -> usize
+    ensures { λ r. ⌜ (r ≤ size) × (count ≤ size → r ≡ count) ⌝ }
+{
+    let i = count as usize;
+    if size < i {
+        return size;
+    }
+    i
+}
+
 // Plain steps of a run from `count` on, noted in the rest of its trace.
 fn steps(
     core: Core,
@@ -43,10 +54,7 @@ fn steps(
     requires { ⌜ (start-questions no-delivery (as-machine core (now prs) (now memory)) ≡ 0) × (count ≤ budget) ⌝ }
     ensures { λ x. ⌜ Steps-as budget count (as-machine core (now (prs .entry)) (now (memory .entry))) (now (trace .entry)) x (as-machine (x .core) (now (prs .exit)) (now (memory .exit))) (now (trace .exit)) ⌝ }
 {
-    let mut start = count as usize;
-    if trace.len() < start {
-        start = trace.len();
-    }
+    let start = place_in(trace.len(), count);
     crate::plain::run(
         core.a,
         core.dbr.address,
@@ -205,8 +213,15 @@ pub fn run(
     requires { ⌜ start-questions (as-delivery delivery) (as-machine core (now prs) (now memory)) ≡ 0 ⌝ }
     ensures { λ x. ⌜ Ran-as (as-delivery delivery) (run-by (step-with (as-delivery delivery)) budget 0 (as-machine core (now (prs .entry)) (now (memory .entry)))) x (as-machine (x .core) (now (prs .exit)) (now (memory .exit))) × Traced (step-with (as-delivery delivery)) budget (as-machine core (now (prs .entry)) (now (memory .entry))) x (now (trace .entry)) (now (trace .exit)) × Counted (step-with (as-delivery delivery)) budget (as-machine core (now (prs .entry)) (now (memory .entry))) x ⌝ }
 {
-    let mut x = part(delivery, core, prs, memory, 0, budget, trace);
-    let mut total = x.read;
+    let mut x = PartEnd {
+        core,
+        reply: Reply::Spent(0),
+        count: 0,
+        read: 0,
+        last: 0,
+        is_last: false,
+    };
+    let mut total = 0;
     while !x.is_last {
         x = part(delivery, x.core, prs, memory, x.count, budget, trace);
         total += x.read;
