@@ -86,6 +86,9 @@ module _ (dv : Delivery) where
     some-read : (single : Bool) (r : ℕ) → r ≡ cond single (y .total + y .last) (y .total) → r ≡ pointers-read dv single b m
     some-read single r f = f ∙ ap₂ (λ t l. cond single (t + l) t) total-here last-here
 
+  pub still-passes : (m k : Machine) (n : ℕ) → n ≡ start-questions dv m → k ≡ m → n ≡ 0 → start-questions dv k ≡ 0
+  still-passes m k n e left z = ap (start-questions dv) left ∙ sym e ∙ z
+
   -- 1 to 4 were asked, which left the machine as it was
   module _ (single : Bool) (b : ℕ) (c : Core) (prs memory trace : List ℕ) (n : ℕ) (e : n ≡ start-questions dv (as-machine c prs memory)) (prs-then memory-then : List ℕ)
       (left : as-machine c prs-then memory-then ≡ as-machine c prs memory) (x : Answered) where
@@ -109,9 +112,6 @@ module _ (dv : Delivery) where
 
         refuses : run dv b (as-machine c prs memory) ≡ ran (Run.Reply.refused n) (as-machine c prs memory)
         refuses = by-number (as-machine c prs memory) n e h
-
-    pub still-passes : n ≡ 0 → start-questions dv (as-machine c prs-then memory-then) ≡ 0
-    still-passes z = ap (start-questions dv) left ∙ sym e ∙ z
 
     pub run-whole : n ≡ 0 → (y : Ran) (prs-now memory-now trace-now : List ℕ) → Ran-as dv (run-by (step-with dv) b 0 (as-machine c prs-then memory-then)) y (as-machine (y .core) prs-now memory-now) →
         Traced (step-with dv) b (as-machine c prs-then memory-then) y trace trace-now → Counted (step-with dv) b (as-machine c prs-then memory-then) y → (r : ℕ) →
