@@ -4,10 +4,13 @@ use mathlib.Core.Bool.{Bool, true, false, _&&_, true≢false}
 use mathlib.Core.List.{List}
 use Prim.Native.Nat.{ℕ}
 use lib.Dec.{eqb}
+use lib.ListN.{length}
 use borrow.Author.Tests.{eqb-true, eq-eqb}
-use Rattle.model.specs.Registers.{Delivery}
+use Rattle.model.specs.Registers.{Delivery, Machine}
 use Rattle.model.specs.Questions.{delivery-in-range}
 use Rattle.model.proofs.BranchLaws.{and-left, and-right}
+use Rattle.model.proofs.CountLaws.{run-counts}
+use Rattle.state.specs.View.{as-machine}
 use Rattle.state.specs.declared.Core.{Core}
 use Rattle.answers.specs.declared.Answered.{Answered}
 use Rattle.machine.specs.Answered.{Answered-as}
@@ -57,3 +60,31 @@ module _ (v : Delivery) (single : Bool) (b : ℕ) (d : Bool) (e : d ≡ delivery
     run-never-again g =
         unfit-refused v single b c prs memory trace x prs-now memory-now trace-now w
         (sym e ∙ second-fails is-step d h (and-left is-step (eqb (x .kind) 3) g)) (eqb-true (x .kind) 3 (and-right is-step (eqb (x .kind) 3) g))
+
+-- HOW IT STARTED, as arms that meet again
+pub data Started (v : Delivery) (single : Bool) (b : ℕ) (d : Bool) (c : Core) (prs memory : List ℕ) (x : Answered) (prs-then memory-then : List ℕ) : Type 0 where
+  as-step : (single && eqb b 1) && d ≡ true → (trace trace-then : List ℕ) → Plain-as true 1 c prs memory trace x prs-then memory-then trace-then → Started v single b d c prs memory x prs-then memory-then
+  as-run : (single && eqb b 1) && d ≡ false → (trace trace-then : List ℕ) → Answered-as v single b c prs memory trace x prs-then memory-then trace-then → Started v single b d c prs memory x prs-then memory-then
+
+module _ (v : Delivery) (single : Bool) (b : ℕ) (d : Bool) (c : Core) (prs memory trace : List ℕ) (y : Answered) (prs-now memory-now trace-now : List ℕ) (x : Answered) (prs-then memory-then : List ℕ)
+    (i : prs-then ≡ prs-now) (j : memory-then ≡ memory-now) (k : x ≡ y) where
+  pub meets-as-step : (single && eqb b 1) && d ≡ true → Plain-as true 1 c prs memory trace y prs-now memory-now trace-now → Started v single b d c prs memory x prs-then memory-then
+  meets-as-step h w = as-step h trace trace-now (rw (i, j, k) w)
+
+  pub meets-as-run : (single && eqb b 1) && d ≡ false → Answered-as v single b c prs memory trace y prs-now memory-now trace-now → Started v single b d c prs memory x prs-then memory-then
+  meets-as-run h w = as-run h trace trace-now (rw (i, j, k) w)
+
+module _ (v : Delivery) (single : Bool) (b : ℕ) (d : Bool) (e : d ≡ delivery-in-range v) (c : Core) (prs memory : List ℕ) (x : Answered) (prs-then memory-then : List ℕ) where
+  pub says-at-once : Started v single b d c prs memory x prs-then memory-then → (single && eqb b 1) && eqb (x .kind) 3 ≡ false → Core-says v single b c prs memory x prs-then memory-then
+  says-at-once (as-step h trace trace-then w) g = step-is-plain v single b d e c prs memory h trace x prs-then memory-then trace-then w g
+  says-at-once (as-run h trace trace-then w) g = run-as-asked v single b d e c prs memory h trace x prs-then memory-then trace-then w
+
+  pub says-again : Started v single b d c prs memory x prs-then memory-then → (single && eqb b 1) && eqb (x .kind) 3 ≡ true → (trace-again : List ℕ) (y : Answered) (prs-now memory-now trace-now : List ℕ) →
+      Answered-as v true 1 (x .core) prs-then memory-then trace-again y prs-now memory-now trace-now → Core-says v single b c prs memory y prs-now memory-now
+  says-again (as-step h trace trace-then w) g trace-again y prs-now memory-now trace-now s =
+      step-again v single b d e c prs memory h trace x prs-then memory-then trace-then w g trace-again y prs-now memory-now trace-now s
+  says-again (as-run h trace trace-then w) g trace-again y prs-now memory-now trace-now s = absurd (run-never-again v single b d e c prs memory h trace x prs-then memory-then trace-then w g)
+
+-- memory keeps its size
+pub size-kept : (v : Delivery) (single : Bool) (b : ℕ) (c : Core) (prs memory : List ℕ) (x : Answered) (prs-now memory-now : List ℕ) → Core-says v single b c prs memory x prs-now memory-now → length memory-now ≡ length memory
+size-kept v single b c prs memory x prs-now memory-now s = ap (λ (k : Machine). length (k .memory)) (s .machine-same) ∙ run-counts v b (as-machine c prs memory) .2
