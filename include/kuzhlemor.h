@@ -118,8 +118,8 @@ kuzhlemor_reply kuzhlemor_run(kuzhlemor_registers *registers, uint64_t *memory, 
  *   -45  text has 64 bytes for each line there may be: 64 * (budget + 1)
  * Bytes of text after the listing, and on refusal all of them, keep what they held. image and text aren't null, not even
  * when their lengths are 0, and don't overlap.
- * The call takes about 68 KiB of stack, most of it for the image's memory; kuzhlemor_step and kuzhlemor_run take less
- * than 512 bytes. */
+ * The call takes about 69 KiB of stack, most of it for the image's memory; kuzhlemor_step and kuzhlemor_run take less
+ * than 1,280 bytes, a step that doesn't fault less than 512. */
 int64_t kuzhlemor_bench(const uint8_t *image, size_t image_length, uint8_t *text, size_t text_length);
 
 /* Makes a stored image of the old rules into one of today's, in place. By the old rules ST had 59 bytes, and an address might
