@@ -55,7 +55,7 @@ fn steps(
     ensures { λ x. ⌜ Steps-as budget count (as-machine core (now (prs .entry)) (now (memory .entry))) (now (trace .entry)) x (as-machine (x .core) (now (prs .exit)) (now (memory .exit))) (now (trace .exit)) ⌝ }
 {
     let start = place_in(trace.len(), count);
-    crate::plain::run(
+    plain::run(
         core.a,
         core.dbr.address,
         core.dbr.length,
@@ -76,7 +76,7 @@ fn words_of(core: Core, prs: &mut [u16; 24], memory: &mut [u64]) -> u64
     ensures { λ r. ⌜ (r ≡ pointer-words (as-machine core (now (prs .entry)) (now (memory .entry)))) × (r ≤ 64) × (as-machine core (now (prs .exit)) (now (memory .exit)) ≡ as-machine core (now (prs .entry)) (now (memory .entry))) ⌝ }
 {
     let mut none: [u64; 0] = [];
-    let x = crate::plain::run(
+    let x = plain::run(
         core.a,
         core.dbr.address,
         core.dbr.length,

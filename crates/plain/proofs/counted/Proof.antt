@@ -1,8 +1,8 @@
--- `plain::counted` meets its contract. Assumes nothing.
+-- `counted` meets its contract. Assumes nothing.
 use borrow.Author.Needs.{needs}
-use Rattle.machine.proofs.PlainLaws.{counts}
-use Rattle.machine.proofs.plain.counted.Statement.{statement}
-use Rattle.machine.proofs.plain.counted.Tie as tie
+use Rattle.plain.proofs.PlainLaws.{counts}
+use Rattle.plain.proofs.counted.Statement.{statement}
+use Rattle.plain.proofs.counted.Tie as tie
 
 add-result : tie.Need-add-result
 add-result c = search needs

@@ -3,8 +3,7 @@
 ghost use mathlib.Core.Bool.{cond};
 ghost use mathlib.Core.Path.{_≡_};
 ghost use Prim.Native.Nat.{_+_, _^_, _<_};
-ghost use Rattle.machine.specs.Answered.{core-of};
-ghost use Rattle.machine.specs.Plain.{Plain-as};
+ghost use Rattle.plain.specs.Plain.{core-of, Plain-as};
 use answers::Answered;
 use answers::answer_of;
 use run::Reply;

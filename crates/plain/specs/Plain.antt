@@ -16,6 +16,11 @@ use Rattle.run.specs.Run.{run-by, trace-by, last-by, noted-steps}
 use Rattle.answers.specs.Answer.{as-numbers, Answer-fits}
 use Rattle.answers.specs.declared.Answered.{Answered}
 
+-- a core by its numbers
+abbrev pub core-of : (a address length ring segment word : ℕ) → Core
+core-of a b l r s w =
+    record { a = a; dbr = record { address = b; length = l }; ipr = record { ring = r; segment = record { 0 = s }; word = record { 0 = w } } }
+
 -- pointer words: of the completed steps, and as a single step with those of the one at which they stop
 abbrev pub plain-words : (single : Bool) → (budget : ℕ) → Machine → ℕ
 plain-words s b m = let t = Run.total-of (trace-by plain-step b m) in cond s (t + last-by plain-step b m) t

@@ -29,7 +29,7 @@ use Rattle.run.proofs.RunLaws.{ipr-passing}
 use Rattle.answers.specs.Answer.{Answers-with}
 use Rattle.answers.specs.declared.Answered.{Answered}
 use Rattle.answers.proofs.AnswerLaws.{count-completed}
-use Rattle.machine.specs.Plain.{Refuses, Runs-plainly, Plain-as}
+use Rattle.plain.specs.Plain.{Refuses, Runs-plainly, Plain-as}
 
 -- WHERE 1 TO 4 PASS, the core fits the host's record
 pub passing-in-record : (c : Core) (prs m : List ℕ) → start-questions no-delivery (as-machine c prs m) ≡ 0 → In-record c

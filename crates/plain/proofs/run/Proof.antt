@@ -1,9 +1,9 @@
--- `plain::run` meets its contract. Assumes nothing.
+-- `run` meets its contract. Assumes nothing.
 use mathlib.Core.Path.{sym, _∙_}
 use borrow.Author.Needs.{needs}
-use Rattle.machine.proofs.PlainLaws.{sum-fits, refused-plainly, run-plainly}
-use Rattle.machine.proofs.plain.run.Statement.{statement}
-use Rattle.machine.proofs.plain.run.Tie as tie
+use Rattle.plain.proofs.PlainLaws.{sum-fits, refused-plainly, run-plainly}
+use Rattle.plain.proofs.run.Statement.{statement}
+use Rattle.plain.proofs.run.Tie as tie
 
 start-answer-requires : tie.Need-start-answer-requires
 start-answer-requires c κs = search needs
