@@ -9,7 +9,7 @@ ghost use Rattle.model.specs.Deliver.{step-with};
 ghost use Rattle.words.specs.View.{as-pointer, Pointer-within};
 ghost use Rattle.state.specs.View.{as-machine, as-delivery};
 ghost use Rattle.dispatch.specs.Plain.{plain-step};
-ghost use Rattle.frames.specs.Frame.{Settles};
+ghost use Rattle.settle.specs.Settles.{Settles};
 ghost use Rattle.run.specs.Run.{run-by, Ran-as, Traced, Counted};
 ghost use Rattle.machine.specs.Parts.{At-a-stop, Steps-as, Part-as};
 use answers::Answered;
@@ -109,7 +109,7 @@ fn stop(
     ensures { λ x. ⌜ Part-as (as-delivery delivery) budget count read (as-machine core (now (prs .entry)) (now (memory .entry))) (now (trace .entry)) x (as-machine (x .core) (now (prs .exit)) (now (memory .exit))) (now (trace .exit)) ⌝ }
 {
     let last = words_of(core, prs, memory);
-    let y = frames::settle::settle(delivery, core, prs, memory, number, t);
+    let y = settle::settle(delivery, core, prs, memory, number, t);
     let after = y.core;
     let end = y.end;
     match end {
