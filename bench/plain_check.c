@@ -1,0 +1,32 @@
+/* CALL's check of any pointer, by the plain processor. */
+#include "plain_step.h"
+
+/* 1 to 4, with the pointer under 2: a pointer in range changes nothing in the registers' answer, and 1 comes first. */
+static uint32_t refusal_with(const kuzhlemor_registers *registers, size_t words, kuzhlemor_pointer p)
+{
+    uint32_t number = refusal(registers, words);
+
+    if (number == 1)
+        return 1;
+    return p.ring > 7 || p.segment > 4095 ? 2 : number;
+}
+
+kuzhlemor_check plain_may_call(const kuzhlemor_registers *registers, const uint64_t *memory, size_t words, uint8_t ring,
+                               uint16_t segment, uint16_t word)
+{
+    kuzhlemor_pointer p = {ring, segment, word};
+    uint32_t refused = refusal_with(registers, words, p);
+    uint8_t new_ring;
+    uint64_t d;
+    int number;
+
+    if (refused != 0)
+        return (kuzhlemor_check){.kind = KUZHLEMOR_REFUSED, .number = refused};
+    p.ring = (uint8_t)larger(p.ring, registers->ipr.ring);
+    number = find(registers, memory, words, p, &d);
+    if (number == 0)
+        number = check_call(registers, d, p, &new_ring);
+    if (number != 0)
+        return (kuzhlemor_check){.kind = KUZHLEMOR_FAULT, .number = (uint32_t)number, .pointer = p};
+    return (kuzhlemor_check){.kind = KUZHLEMOR_PASSES, .ring = new_ring};
+}
