@@ -1,5 +1,4 @@
 -- Laws of this crate. Assumes nothing.
-pub mod PlainLaws
 pub mod AnswerLaws
 pub mod AskLaws
 pub mod FollowLaws

@@ -27,7 +27,7 @@ use Rattle.run.proofs.RunLaws.{way-joins, way-ends, way-spent}
 use Rattle.answers.specs.Answer.{reply-in, Replies, Answer-fits}
 use Rattle.answers.specs.declared.Answered.{Answered}
 use Rattle.answers.proofs.AnswerLaws.{reply-of-numbers, count-completed}
-use Rattle.machine.specs.Plain.{Runs-plainly}
+use Rattle.plain.specs.Plain.{Runs-plainly}
 use Rattle.machine.specs.Parts.{Steps-as, Part-as}
 use Rattle.machine.specs.declared.parts.PartEnd.{PartEnd}
 use Rattle.machine.proofs.FollowLaws.{passes-with, Ahead, Whole, followed, follow}

@@ -25,13 +25,13 @@ use Rattle.state.specs.declared.End.{End}
 use Rattle.state.specs.declared.End.the-variants.{Completed, Halted, Faulted}
 use Rattle.dispatch.specs.Plain.{plain-step, stopped}
 use Rattle.dispatch.proofs.PlainLaws.{plain-stops}
-use Rattle.frames.specs.Frame.{End-within, Settles}
-use Rattle.frames.specs.declared.Settled.{Settled}
+use Rattle.settle.specs.Settles.{End-within, Settles}
+use Rattle.restore.specs.declared.Settled.{Settled}
 use Rattle.run.specs.Run.{last-by, Noted, On-the-way}
 use Rattle.run.specs.declared.Reply.the-variants as Reply
 use Rattle.run.proofs.RunLaws.{ipr-passing, run-faults, trace-faults, last-faults, way-starts, way-faults, way-halts, way-goes-on}
 use Rattle.answers.specs.declared.Answered.{Answered}
-use Rattle.machine.specs.Plain.{Plain-as}
+use Rattle.plain.specs.Plain.{Plain-as}
 use Rattle.machine.specs.Parts.{At-a-stop, Part-as}
 use Rattle.machine.proofs.FollowLaws.{passes-plainly}
 

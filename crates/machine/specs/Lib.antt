@@ -1,4 +1,3 @@
 -- What the contracts of this crate cite. Assumes nothing: these are definitions.
 pub mod Answered
-pub mod Plain
 pub mod Parts

@@ -2,7 +2,8 @@
 ghost use mathlib.Core.Path.{_≡_};
 ghost use Rattle.model.specs.Questions.{start-questions};
 ghost use Rattle.state.specs.View.{as-machine, as-delivery};
-ghost use Rattle.machine.specs.Answered.{core-of, Answered-as, Prepared-as};
+ghost use Rattle.plain.specs.Plain.{core-of};
+ghost use Rattle.machine.specs.Answered.{Answered-as, Prepared-as};
 use answers::Answered;
 use answers::answer_of;
 use host::record::Registers;
@@ -15,7 +16,6 @@ use words::pointer::SegmentNumber;
 use words::pointer::WordNumber;
 
 mod parts;
-pub mod plain;
 
 // 1 to 4 alone: the number of the first no, or 0. It is a run of no steps, so that the one big function stays the only one that
 // asks them.

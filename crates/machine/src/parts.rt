@@ -9,7 +9,7 @@ ghost use Rattle.model.specs.Deliver.{step-with};
 ghost use Rattle.words.specs.View.{as-pointer, Pointer-within};
 ghost use Rattle.state.specs.View.{as-machine, as-delivery};
 ghost use Rattle.dispatch.specs.Plain.{plain-step};
-ghost use Rattle.frames.specs.Frame.{Settles};
+ghost use Rattle.settle.specs.Settles.{Settles};
 ghost use Rattle.run.specs.Run.{run-by, Ran-as, Traced, Counted};
 ghost use Rattle.machine.specs.Parts.{At-a-stop, Steps-as, Part-as};
 use answers::Answered;
@@ -55,7 +55,7 @@ fn steps(
     ensures { λ x. ⌜ Steps-as budget count (as-machine core (now (prs .entry)) (now (memory .entry))) (now (trace .entry)) x (as-machine (x .core) (now (prs .exit)) (now (memory .exit))) (now (trace .exit)) ⌝ }
 {
     let start = place_in(trace.len(), count);
-    crate::plain::run(
+    plain::run(
         core.a,
         core.dbr.address,
         core.dbr.length,
@@ -76,7 +76,7 @@ fn words_of(core: Core, prs: &mut [u16; 24], memory: &mut [u64]) -> u64
     ensures { λ r. ⌜ (r ≡ pointer-words (as-machine core (now (prs .entry)) (now (memory .entry)))) × (r ≤ 64) × (as-machine core (now (prs .exit)) (now (memory .exit)) ≡ as-machine core (now (prs .entry)) (now (memory .entry))) ⌝ }
 {
     let mut none: [u64; 0] = [];
-    let x = crate::plain::run(
+    let x = plain::run(
         core.a,
         core.dbr.address,
         core.dbr.length,
@@ -109,7 +109,7 @@ fn stop(
     ensures { λ x. ⌜ Part-as (as-delivery delivery) budget count read (as-machine core (now (prs .entry)) (now (memory .entry))) (now (trace .entry)) x (as-machine (x .core) (now (prs .exit)) (now (memory .exit))) (now (trace .exit)) ⌝ }
 {
     let last = words_of(core, prs, memory);
-    let y = frames::settle::settle(delivery, core, prs, memory, number, t);
+    let y = settle::settle(delivery, core, prs, memory, number, t);
     let after = y.core;
     let end = y.end;
     match end {
