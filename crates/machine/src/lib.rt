@@ -15,8 +15,6 @@ use words::pointer::Pointer;
 use words::pointer::SegmentNumber;
 use words::pointer::WordNumber;
 
-mod parts;
-
 // 1 to 4 alone: the number of the first no, or 0. It is a run of no steps, so that the one big function stays the only one that
 // asks them.
 fn ask(delivery: Delivery, core: Core, prs: &mut [u16; 24], memory: &mut [u64]) -> u8
@@ -75,7 +73,7 @@ pub fn run(
     if n != 0 {
         return answer_of(Reply::Refused(n), core, 0);
     }
-    let y = parts::run(delivery, core, prs, memory, budget, trace);
+    let y = delivered::run(delivery, core, prs, memory, budget, trace);
     let reply = y.reply;
     let after = y.core;
     answer_of(reply, after, plain::counted(single, y.total, y.last))

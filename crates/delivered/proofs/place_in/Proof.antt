@@ -1,8 +1,8 @@
--- `parts::place_in` meets its contract. Assumes nothing.
+-- `place_in` meets its contract. Assumes nothing.
 use native.Mathlib.Omega.{arith}
 use borrow.Author.Needs.{needs}
-use Rattle.machine.proofs.parts.place_in.Statement.{statement}
-use Rattle.machine.proofs.parts.place_in.Tie as tie
+use Rattle.delivered.proofs.place_in.Statement.{statement}
+use Rattle.delivered.proofs.place_in.Tie as tie
 
 returns : tie.Need-returns
 returns c = (omega arith, λ h. omega arith)

@@ -32,8 +32,8 @@ use Rattle.run.specs.declared.Reply.the-variants as Reply
 use Rattle.run.proofs.RunLaws.{ipr-passing, run-faults, trace-faults, last-faults, way-starts, way-faults, way-halts, way-goes-on}
 use Rattle.answers.specs.declared.Answered.{Answered}
 use Rattle.plain.specs.Plain.{Plain-as}
-use Rattle.machine.specs.Parts.{At-a-stop, Part-as}
-use Rattle.machine.proofs.FollowLaws.{passes-plainly}
+use Rattle.delivered.specs.Parts.{At-a-stop, Part-as}
+use Rattle.delivered.proofs.FollowLaws.{passes-plainly}
 
 -- A STOP once more, as a single step
 module _ (c : Core) (prs memory trace : List ℕ) (e : start-questions no-delivery (as-machine c prs memory) ≡ 0) (s : At-a-stop (as-machine c prs memory)) (x : Answered)

@@ -1,8 +1,8 @@
--- `parts::steps` meets its contract. Assumes nothing.
-use Rattle.machine.proofs.PartLaws.{steps-noted}
+-- `steps` meets its contract. Assumes nothing.
+use Rattle.delivered.proofs.PartLaws.{steps-noted}
 use borrow.Author.Needs.{needs}
-use Rattle.machine.proofs.parts.steps.Statement.{statement}
-use Rattle.machine.proofs.parts.steps.Tie as tie
+use Rattle.delivered.proofs.steps.Statement.{statement}
+use Rattle.delivered.proofs.steps.Tie as tie
 
 place-in-requires : tie.Need-place-in-requires
 place-in-requires c κs = search needs

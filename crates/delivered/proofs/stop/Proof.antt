@@ -1,8 +1,8 @@
--- `parts::stop` meets its contract. Assumes nothing.
-use Rattle.machine.proofs.StopLaws.{stop-needs, settle-needs, ipr-completed, ipr-halted, stop-completed, stop-halted, stop-faulted}
+-- `stop` meets its contract. Assumes nothing.
+use Rattle.delivered.proofs.StopLaws.{stop-needs, settle-needs, ipr-completed, ipr-halted, stop-completed, stop-halted, stop-faulted}
 use borrow.Author.Needs.{needs}
-use Rattle.machine.proofs.parts.stop.Statement.{statement}
-use Rattle.machine.proofs.parts.stop.Tie as tie
+use Rattle.delivered.proofs.stop.Statement.{statement}
+use Rattle.delivered.proofs.stop.Tie as tie
 
 words-of-requires : tie.Need-words-of-requires
 words-of-requires c κs = stop-needs _ _ (c .before .before .before .before .pre .0) _ _ (c .before .before .before .before .pre .1)

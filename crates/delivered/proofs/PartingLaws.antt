@@ -13,8 +13,8 @@ use Rattle.run.specs.Run.{run-by, as-reply, Reply-within, completed, Ran-as, Tr
 use Rattle.run.specs.declared.Ran.{Ran}
 use Rattle.run.specs.declared.Reply.the-variants as Reply
 use Rattle.run.proofs.RunLaws.{way-starts, way-joins, way-ends, answers}
-use Rattle.machine.specs.Parts.{Part-as}
-use Rattle.machine.specs.declared.parts.PartEnd.{PartEnd}
+use Rattle.delivered.specs.Parts.{Part-as}
+use Rattle.delivered.specs.declared.PartEnd.{PartEnd}
 
 -- PART AFTER PART, from the run's start
 pub record Parting (v : Delivery) (b : ℕ) (m : Machine) (t : List ℕ) (x : PartEnd) (total : ℕ) (k : Machine) (u : List ℕ) : Type 0 where

@@ -15,7 +15,7 @@ use Rattle.dispatch.specs.Plain.{plain-step}
 use Rattle.run.specs.Run.{run-by, trace-by, as-reply, Reply-within, completed, noted-steps, On-the-way, At-the-end}
 use Rattle.answers.specs.Answer.{as-numbers, Answer-fits}
 use Rattle.answers.specs.declared.Answered.{Answered}
-use Rattle.machine.specs.declared.parts.PartEnd.{PartEnd}
+use Rattle.delivered.specs.declared.PartEnd.{PartEnd}
 
 -- the plain step stops there
 pub record At-a-stop (m : Machine) : Type 0 where

@@ -1,8 +1,8 @@
--- `parts::words_of` meets its contract. Assumes nothing.
-use Rattle.machine.proofs.StopLaws.{stop-counted}
+-- `words_of` meets its contract. Assumes nothing.
+use Rattle.delivered.proofs.StopLaws.{stop-counted}
 use borrow.Author.Needs.{needs}
-use Rattle.machine.proofs.parts.words_of.Statement.{statement}
-use Rattle.machine.proofs.parts.words_of.Tie as tie
+use Rattle.delivered.proofs.words_of.Statement.{statement}
+use Rattle.delivered.proofs.words_of.Tie as tie
 
 slice-aggregate-run : tie.Need-slice-aggregate-run
 slice-aggregate-run c = search needs

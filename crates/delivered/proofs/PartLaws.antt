@@ -28,9 +28,9 @@ use Rattle.answers.specs.Answer.{reply-in, Replies, Answer-fits}
 use Rattle.answers.specs.declared.Answered.{Answered}
 use Rattle.answers.proofs.AnswerLaws.{reply-of-numbers, count-completed}
 use Rattle.plain.specs.Plain.{Runs-plainly}
-use Rattle.machine.specs.Parts.{Steps-as, Part-as}
-use Rattle.machine.specs.declared.parts.PartEnd.{PartEnd}
-use Rattle.machine.proofs.FollowLaws.{passes-with, Ahead, Whole, followed, follow}
+use Rattle.delivered.specs.Parts.{Steps-as, Part-as}
+use Rattle.delivered.specs.declared.PartEnd.{PartEnd}
+use Rattle.delivered.proofs.FollowLaws.{passes-with, Ahead, Whole, followed, follow}
 
 -- PLAIN STEPS noted in the rest of a trace, from start on: the count, or the trace's end where that comes first
 module _ (budget count : ℕ) (m : Machine) (t : List ℕ) (start : ℕ) (x : Answered) (k : Machine) (s : List ℕ) where

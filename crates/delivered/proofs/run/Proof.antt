@@ -1,9 +1,9 @@
--- `parts::run` meets its contract. Assumes nothing.
+-- `run` meets its contract. Assumes nothing.
 use Rattle.state.specs.View.{as-machine, as-delivery}
-use Rattle.machine.proofs.PartingLaws.{Parting, parts-left, parting-starts, part-needs, words-fit, parts-fewer, parting-again, parting-ends}
+use Rattle.delivered.proofs.PartingLaws.{Parting, parts-left, parting-starts, part-needs, words-fit, parts-fewer, parting-again, parting-ends}
 use borrow.Author.Needs.{needs}
-use Rattle.machine.proofs.parts.run.Statement.{statement}
-use Rattle.machine.proofs.parts.run.Tie as tie
+use Rattle.delivered.proofs.run.Statement.{statement}
+use Rattle.delivered.proofs.run.Tie as tie
 
 abbrev Inv-loop : tie.InvT-loop
 Inv-loop delivery prs₀ memory₀ budget trace₀ x₀ total₀ prs memory trace x total =

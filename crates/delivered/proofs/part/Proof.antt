@@ -1,9 +1,9 @@
--- `parts::part` meets its contract. Assumes nothing.
-use Rattle.machine.proofs.FollowLaws.{passes-plainly}
-use Rattle.machine.proofs.PartLaws.{never-refused, spent-fits, part-spent, halted-fits, part-halted, stop-below, stop-here, part-stopped}
+-- `part` meets its contract. Assumes nothing.
+use Rattle.delivered.proofs.FollowLaws.{passes-plainly}
+use Rattle.delivered.proofs.PartLaws.{never-refused, spent-fits, part-spent, halted-fits, part-halted, stop-below, stop-here, part-stopped}
 use borrow.Author.Needs.{needs}
-use Rattle.machine.proofs.parts.part.Statement.{statement}
-use Rattle.machine.proofs.parts.part.Tie as tie
+use Rattle.delivered.proofs.part.Statement.{statement}
+use Rattle.delivered.proofs.part.Tie as tie
 
 steps-requires : tie.Need-steps-requires
 steps-requires c κs = (passes-plainly _ _ (c .before .before .before .before .before .pre .0) _ (c .before .before .before .before .before .pre .0), c .before .before .before .before .before .pre .1)
