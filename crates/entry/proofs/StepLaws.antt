@@ -14,7 +14,7 @@ use Rattle.state.specs.View.{as-machine}
 use Rattle.state.specs.declared.Core.{Core}
 use Rattle.answers.specs.declared.Answered.{Answered}
 use Rattle.machine.specs.Answered.{Answered-as}
-use Rattle.machine.specs.Plain.{Plain-as}
+use Rattle.plain.specs.Plain.{Plain-as}
 use Rattle.machine.proofs.SingleLaws.{plain-answers, stops-at-once, answers-from, unfit-refused}
 use Rattle.entry.specs.Call.{Core-says}
 use Rattle.entry.proofs.CallLaws.{core-says}

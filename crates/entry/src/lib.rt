@@ -41,7 +41,7 @@ fn run_core(
     let is_step = single & (budget == 1);
     let mut none: [u64; 0] = [];
     let mut x = if is_step & host::start::is_delivery(delivery) {
-        machine::plain::run(
+        plain::run(
             core.a,
             core.dbr.address,
             core.dbr.length,

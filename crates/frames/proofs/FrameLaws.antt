@@ -22,8 +22,8 @@ use Rattle.segments.specs.Translation.{descriptor-word}
 use Rattle.state.specs.View.{pointers-in, as-pointers, pr-of, as-registers, as-machine}
 use Rattle.state.specs.declared.Core.{Core}
 use Rattle.frames.specs.Frame.{Savable, Saves-in, saves, Delivers}
-use Rattle.frames.specs.declared.deliver.Saves.{Saves}
-use Rattle.frames.specs.declared.deliver.Saves.the-variants.{No, In}
+use Rattle.frames.specs.declared.Saves.{Saves}
+use Rattle.frames.specs.declared.Saves.the-variants.{No, In}
 
 -- WORD BY WORD
 module _ (c : Core) (prs : List ℕ) (n : ℕ) (t : Words.Pointer) (i w : ℕ) where

@@ -1,5 +1,3 @@
 -- Laws of this crate. Assumes nothing.
 pub mod SaveLaws
 pub mod FrameLaws
-pub mod TakeLaws
-pub mod SettleLaws

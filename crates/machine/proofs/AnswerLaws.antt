@@ -27,7 +27,7 @@ use Rattle.answers.specs.Answer.{Answers-with}
 use Rattle.answers.specs.declared.Answered.{Answered}
 use Rattle.answers.proofs.AnswerLaws.{count-completed}
 use Rattle.machine.specs.Answered.{pointers-read, Answered-as}
-use Rattle.machine.proofs.PlainLaws.{passing-in-record}
+use Rattle.plain.proofs.PlainLaws.{passing-in-record}
 
 module _ (dv : Delivery) where
   -- THE DEFINITION'S RUN is the run by its step

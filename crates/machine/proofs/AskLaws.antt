@@ -22,7 +22,7 @@ use Rattle.run.specs.Run.{run-by}
 use Rattle.answers.specs.Answer.{as-numbers}
 use Rattle.answers.specs.declared.Answered.{Answered}
 use Rattle.machine.specs.Answered.{Prepared-as}
-use Rattle.machine.specs.Plain.{Plain-as}
+use Rattle.plain.specs.Plain.{Plain-as}
 use Rattle.machine.specs.declared.Prepared.{Prepared}
 
 -- the same machine, with the core that it was given

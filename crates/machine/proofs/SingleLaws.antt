@@ -26,9 +26,9 @@ use Rattle.run.specs.Run.{run-by, trace-by, last-by, noted-steps}
 use Rattle.answers.specs.Answer.{as-numbers}
 use Rattle.answers.specs.declared.Answered.{Answered}
 use Rattle.machine.specs.Answered.{pointers-read, Answered-as}
-use Rattle.machine.specs.Plain.{Refuses, Runs-plainly, Plain-as}
+use Rattle.plain.specs.Plain.{Refuses, Runs-plainly, Plain-as}
 use Rattle.machine.proofs.AnswerLaws.{same-run, same-trace, same-last, none-read}
-use Rattle.machine.proofs.FollowLaws.{followed, follow}
+use Rattle.delivered.proofs.FollowLaws.{followed, follow}
 
 abbrev No-fault : Run.Reply → Type 0
 No-fault (Run.Reply.refused n) = Unit {0}

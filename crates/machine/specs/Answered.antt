@@ -17,10 +17,6 @@ use Rattle.answers.specs.Answer.{as-numbers, Answer-fits}
 use Rattle.answers.specs.declared.Answered.{Answered}
 use Rattle.machine.specs.declared.Prepared.{Prepared}
 
-abbrev pub core-of : (a address length ring segment word : ℕ) → Core
-core-of a b l r s w =
-    record { a = a; dbr = record { address = b; length = l }; ipr = record { ring = r; segment = record { 0 = s }; word = record { 0 = w } } }
-
 -- the pointer words of a run: its total, and as a single step with those of the step at which it faults
 abbrev pub pointers-read : Delivery → (single : Bool) → (budget : ℕ) → Machine → ℕ
 pointers-read v s b m = cond s (Run.total v b m + Run.fault-count v b m) (Run.total v b m)

@@ -1,4 +1,2 @@
 -- What the contracts of this crate cite. Assumes nothing: these are definitions.
 pub mod Answered
-pub mod Plain
-pub mod Parts

@@ -2,7 +2,8 @@
 ghost use mathlib.Core.Path.{_≡_};
 ghost use Rattle.model.specs.Questions.{start-questions};
 ghost use Rattle.state.specs.View.{as-machine, as-delivery};
-ghost use Rattle.machine.specs.Answered.{core-of, Answered-as, Prepared-as};
+ghost use Rattle.plain.specs.Plain.{core-of};
+ghost use Rattle.machine.specs.Answered.{Answered-as, Prepared-as};
 use answers::Answered;
 use answers::answer_of;
 use host::record::Registers;
@@ -13,9 +14,6 @@ use state::Delivery;
 use words::pointer::Pointer;
 use words::pointer::SegmentNumber;
 use words::pointer::WordNumber;
-
-mod parts;
-pub mod plain;
 
 // 1 to 4 alone: the number of the first no, or 0. It is a run of no steps, so that the one big function stays the only one that
 // asks them.
@@ -75,7 +73,7 @@ pub fn run(
     if n != 0 {
         return answer_of(Reply::Refused(n), core, 0);
     }
-    let y = parts::run(delivery, core, prs, memory, budget, trace);
+    let y = delivered::run(delivery, core, prs, memory, budget, trace);
     let reply = y.reply;
     let after = y.core;
     answer_of(reply, after, plain::counted(single, y.total, y.last))

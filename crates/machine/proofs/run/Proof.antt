@@ -1,6 +1,6 @@
 -- `run` meets its contract. Assumes nothing.
 use mathlib.Core.Path.{sym, _∙_}
-use Rattle.machine.proofs.PlainLaws.{sum-fits}
+use Rattle.plain.proofs.PlainLaws.{sum-fits}
 use Rattle.machine.proofs.AnswerLaws.{refused-whole, still-passes, run-whole}
 use borrow.Author.Needs.{needs}
 use Rattle.machine.proofs.run.Statement.{statement}

@@ -1,0 +1,5 @@
+-- Laws of this crate. Assumes nothing.
+pub mod FollowLaws
+mod StopLaws
+mod PartLaws
+mod PartingLaws
