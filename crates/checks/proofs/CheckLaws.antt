@@ -1,54 +1,72 @@
--- What a check answers: refused, a fault or the new ring, as numbers. Assumes nothing.
+-- CALL's check, from its questions: refused, a fault or the new ring. Assumes nothing.
 use mathlib.Core.Path.{_≡_, refl, sym, _∙_, ap}
+use mathlib.Core.Bool.{true}
 use mathlib.Core.List.{List}
-use Prim.Native.Nat.{ℕ, zero, suc}
+use Prim.Native.Nat.{ℕ, zero, suc, _+_, _≤_}
+use lib.ListN.{length}
 use Rattle.model.specs.Words as Words
-use Rattle.model.specs.Registers as Model
-use Rattle.model.specs.Registers.{Delivery, Machine, with-ring-at-least}
+use Rattle.model.specs.Registers.{Machine, with-ring-at-least}
+use Rattle.model.specs.Questions.{pointer-in-range, start-questions}
 use Rattle.model.specs.Run.{unless-refused}
 use Rattle.model.specs.Check as Check
-use Rattle.words.specs.View.{as-pointer}
-use Rattle.words.specs.declared.pointer.Pointer as Core
+use Rattle.model.proofs.QuestionLaws.{ask-yes}
+use Rattle.words.specs.View.{as-pointer, Pointer-within}
 use Rattle.words.specs.declared.descriptor.Descriptor.{Descriptor}
+use Rattle.words.specs.declared.pointer.Pointer.{Pointer}
 use Rattle.state.specs.View.{as-machine}
-use Rattle.state.specs.declared.Core as State
-use Rattle.host.specs.Record.{pointer-of, machine-of, Converted}
-use Rattle.host.specs.declared.record.Pointer.{Pointer}
+use Rattle.state.specs.declared.Core.{Core}
+use Rattle.state.proofs.PassingLaws.{pointer-passing, ipr-passing, ready-passing}
+use Rattle.host.specs.Record.{machine-of, delivery-of, Converted}
 use Rattle.host.specs.declared.record.Registers.{Registers}
 use Rattle.control.specs.Call.{checked-by}
 use Rattle.control.specs.declared.Checked.{Checked}
 use Rattle.control.specs.declared.Checked.the-variants.{Bad, Ring}
 use Rattle.control.proofs.MoveLaws.{check-faults, check-passes}
-use Rattle.checks.specs.View.{check-numbers, Checks-as}
-use Rattle.checks.specs.declared.Check as Numbers
 
-abbrev nowhere : Pointer
-nowhere = record { ring = 0; segment = 0; word = 0 }
+module _ (r : Registers) (c : Core) (w : Converted r c) (memory : List ℕ) (p : Pointer) (n : ℕ)
+    (e : n ≡ Check.check-questions (delivery-of r) (as-machine c (r .prs) memory) (as-pointer p)) where
+  abbrev m : Machine
+  m = as-machine c (r .prs) memory
 
-module _ (v : Delivery) (m : Machine) (p : Words.Pointer) (n : ℕ) (e : n ≡ Check.check-questions v m p) where
-  pub says-refused : (n ≡ 0 → ⊥) → Checks-as (Check.check v m p) (record { kind = 0; number = n; ring = 0; pointer = nowhere })
-  unfolding Check.check check-numbers unless-refused
-  says-refused h = record { same = by-number n e h }
+  -- the record's machine is the core's
+  of-record : Check.check (delivery-of r) m (as-pointer p) ≡ Check.check (delivery-of r) (machine-of r memory) (as-pointer p)
+  of-record = ap (λ g. Check.check (delivery-of r) (record { registers = g; memory = memory }) (as-pointer p)) (w .same)
+
+  pub says-refused : (n ≡ 0 → ⊥) → Check.refused n ≡ Check.check (delivery-of r) (machine-of r memory) (as-pointer p)
+  unfolding Check.check unless-refused
+  says-refused h = by-number n e h ∙ of-record
     where
-      by-number : (k : ℕ) → k ≡ Check.check-questions v m p → (k ≡ 0 → ⊥) → record { kind = 0; number = k; ring = 0; pointer = pointer-of nowhere } ≡ check-numbers (Check.check v m p)
+      by-number : (k : ℕ) → k ≡ Check.check-questions (delivery-of r) m (as-pointer p) → (k ≡ 0 → ⊥) → Check.refused k ≡ Check.check (delivery-of r) m (as-pointer p)
       by-number zero e h = absurd (h refl)
-      by-number (suc k) e h = ap (λ a. check-numbers (unless-refused a Check.refused (Check.checked m (with-ring-at-least (m .registers .ipr .ring) p)))) e
+      by-number (suc k) e h = ap (λ a. unless-refused a Check.refused (Check.checked m (with-ring-at-least (c .ipr .ring) (as-pointer p)))) e
 
   module _ (z : n ≡ 0) where
-    goes-on : Check.check v m p ≡ Check.checked m (with-ring-at-least (m .registers .ipr .ring) p)
+    asked : (pointer-in-range (as-pointer p) ≡ true) × (start-questions (delivery-of r) m ≡ 0)
+    unfolding Check.check-questions
+    asked = ask-yes _ _ _ (ask-yes _ _ _ (sym e ∙ z) .1)
+
+    pub pointer-fits : Pointer-within p
+    pointer-fits = pointer-passing p (asked .0)
+
+    pub ring-fits : c .ipr .ring ≤ 7
+    ring-fits = ipr-passing c (r .prs) memory (asked .1) .ring-within
+
+    pub dbr-fits : c .dbr .address + c .dbr .length ≤ length memory
+    dbr-fits = ready-passing c (r .prs) memory (asked .1) .dbr-fits
+
+    goes-on : Check.check (delivery-of r) m (as-pointer p) ≡ Check.checked m (with-ring-at-least (c .ipr .ring) (as-pointer p))
     unfolding Check.check unless-refused
-    goes-on = ap (λ a. unless-refused a Check.refused (Check.checked m (with-ring-at-least (m .registers .ipr .ring) p))) (sym e ∙ z)
+    goes-on = ap (λ a. unless-refused a Check.refused (Check.checked m (with-ring-at-least (c .ipr .ring) (as-pointer p)))) (sym e ∙ z)
 
-    module _ (x : Checked) (t : Words.Pointer) (g : t ≡ with-ring-at-least (m .registers .ipr .ring) p) (s : checked-by (m .registers .dbr) (m .memory) (m .registers .ipr) t x) where
-      pub says-fault : (k : ℕ) → x ≡ Bad k → (q : Pointer) → pointer-of q ≡ t → Checks-as (Check.check v m p) (record { kind = 3; number = k; ring = 0; pointer = q })
-      unfolding check-numbers
-      says-fault k f q h =
-          record {
-            same =
-                ap (λ u. record { kind = 3; number = k; ring = 0; pointer = u }) h
-                ∙ ap check-numbers (sym (goes-on ∙ ap (Check.checked m) (sym g) ∙ check-faults m t k (rw f at s)));
-          }
+    module _ (x : Checked) (t : Words.Pointer) (g : t ≡ with-ring-at-least (c .ipr .ring) (as-pointer p)) (s : checked-by (m .registers .dbr) memory (m .registers .ipr) t x) where
+      raised-on : Check.checked m t ≡ Check.check (delivery-of r) (machine-of r memory) (as-pointer p)
+      raised-on = ap (Check.checked m) g ∙ sym goes-on ∙ of-record
 
-      pub says-passes : (d : Descriptor) (k : ℕ) → x ≡ Ring d k → Checks-as (Check.check v m p) (record { kind = 4; number = 0; ring = k; pointer = nowhere })
-      unfolding check-numbers
-      says-passes d k f = record { same = ap check-numbers (sym (goes-on ∙ ap (Check.checked m) (sym g) ∙ check-passes m t d k (rw f at s))) }
+      pub says-fault : (k : ℕ) → x ≡ Bad k → Check.fault k t ≡ Check.check (delivery-of r) (machine-of r memory) (as-pointer p)
+      says-fault k f = sym (check-faults m t k (rw f at s)) ∙ raised-on
+
+      pub says-passes : (d : Descriptor) (k : ℕ) → x ≡ Ring d k → Check.passes k ≡ Check.check (delivery-of r) (machine-of r memory) (as-pointer p)
+      says-passes d k f = sym (check-passes m t d k (rw f at s)) ∙ raised-on
+
+      pub ring-passed : (d : Descriptor) (k : ℕ) → x ≡ Ring d k → k ≤ 7
+      ring-passed d k f = (rw f at s) .1 .1

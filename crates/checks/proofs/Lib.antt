@@ -1,2 +1,3 @@
 -- Laws of this crate. Assumes nothing.
-pub mod CheckLaws
+mod CheckLaws
+mod LineLaws

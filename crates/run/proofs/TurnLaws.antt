@@ -17,13 +17,14 @@ use Rattle.segments.specs.Translation.{Code-right}
 use Rattle.state.specs.declared.After.{After}
 use Rattle.state.specs.declared.End.the-variants.{Completed, Halted, Faulted}
 use Rattle.state.specs.View.{as-pointers, as-machine, Ready, ended, Does}
+use Rattle.state.proofs.PassingLaws.{prs-in-range, ready-passing, ipr-passing}
 use Rattle.dispatch.specs.Plain.{plain-program, plain-step}
 use Rattle.dispatch.specs.Dispatch.{dispatched-in}
 use Rattle.processor.specs.Step.{Ready-to-perform, quickly-formed}
 use Rattle.processor.specs.declared.Prepared.{Prepared}
 use Rattle.processor.specs.declared.Prepared.the-variants as Prepared
 use Rattle.run.specs.Run.{Noted, On-the-way, At-the-end, Went-as, next-formed}
-use Rattle.run.proofs.RunLaws.{prs-in-range, ready-passing, ipr-passing, performed-ends, passing-after, way-starts, way-faults, way-halts, way-goes-on, fault-within}
+use Rattle.run.proofs.RunLaws.{performed-ends, passing-after, way-starts, way-faults, way-halts, way-goes-on, fault-within}
 
 -- before a turn: the way so far, a right code descriptor, and while the loop goes on an instruction that is formed
 pub record Turning (b s r : ℕ) (m : Machine) (t₀ : List ℕ) (x : After) (prs memory trace : List ℕ) (w : ℕ) (t : Pointer) (p count : ℕ) (going : Bool) : Type 0 where

@@ -1,6 +1,6 @@
 -- `next` meets its contract. Assumes nothing.
 use borrow.Author.Needs.{needs}
-use Rattle.run.proofs.RunLaws.{ready-passing, prs-in-range}
+use Rattle.state.proofs.PassingLaws.{ready-passing, prs-in-range}
 use Rattle.run.proofs.TurnLaws.{next-law}
 use Rattle.run.proofs.next.Statement.{statement}
 use Rattle.run.proofs.next.Tie as tie

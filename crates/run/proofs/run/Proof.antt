@@ -3,7 +3,8 @@ use mathlib.Core.Path.{refl}
 use Prim.Native.Nat.{_-_, _*_, _≤_}
 use native.Mathlib.Omega.{arith}
 use borrow.Author.Needs.{needs}
-use Rattle.run.proofs.RunLaws.{prs-in-range, ready-passing, way-starts, way-faults, way-joins, way-ends, way-spent, total-fits, fault-within, answers}
+use Rattle.state.proofs.PassingLaws.{prs-in-range, ready-passing}
+use Rattle.run.proofs.RunLaws.{way-starts, way-faults, way-joins, way-ends, way-spent, total-fits, fault-within, answers}
 use Rattle.run.proofs.run.Statement.{statement}
 use Rattle.run.proofs.run.Tie as tie
 use Rattle.model.specs.Registers.{no-delivery}
