@@ -2,7 +2,8 @@
 use mathlib.Core.Path.{_≡_, refl, sym, _∙_, ap}
 use mathlib.Core.Bool.{true}
 use mathlib.Core.List.{List}
-use Prim.Native.Nat.{ℕ, zero, suc, _+_, _≤_}
+use Prim.Native.Nat.{ℕ, zero, suc, _+_, _≤_, max}
+use native.Mathlib.Omega.{arith}
 use lib.ListN.{length}
 use Rattle.model.specs.Words as Words
 use Rattle.model.specs.Registers.{Machine, with-ring-at-least}
@@ -22,6 +23,15 @@ use Rattle.control.specs.Call.{checked-by}
 use Rattle.control.specs.declared.Checked.{Checked}
 use Rattle.control.specs.declared.Checked.the-variants.{Bad, Ring}
 use Rattle.control.proofs.MoveLaws.{check-faults, check-passes}
+
+-- the pointer's ring raised
+module _ (p : Pointer) (n k : ℕ) (e : k ≡ max n (p .ring)) where
+  pub raised-same : _≡_ {A = Words.Pointer} (record { ring = k; segment = p .segment .0; word = p .word .0 }) (with-ring-at-least n (as-pointer p))
+  unfolding with-ring-at-least
+  raised-same = ap (λ l. record { ring = l; segment = p .segment .0; word = p .word .0 }) e
+
+  pub raised-within : Pointer-within p → n ≤ 7 → k ≤ 7
+  raised-within w h = let low = w .ring-within in omega arith
 
 module _ (r : Registers) (c : Core) (w : Converted r c) (memory : List ℕ) (p : Pointer) (n : ℕ)
     (e : n ≡ Check.check-questions (delivery-of r) (as-machine c (r .prs) memory) (as-pointer p)) where
@@ -49,10 +59,10 @@ module _ (r : Registers) (c : Core) (w : Converted r c) (memory : List ℕ) (p :
     pointer-fits = pointer-passing p (asked .0)
 
     pub ring-fits : c .ipr .ring ≤ 7
-    ring-fits = ipr-passing c (r .prs) memory (asked .1) .ring-within
+    ring-fits = ipr-passing _ c (r .prs) memory (asked .1) .ring-within
 
     pub dbr-fits : c .dbr .address + c .dbr .length ≤ length memory
-    dbr-fits = ready-passing c (r .prs) memory (asked .1) .dbr-fits
+    dbr-fits = ready-passing _ c (r .prs) memory (asked .1) .dbr-fits
 
     goes-on : Check.check (delivery-of r) m (as-pointer p) ≡ Check.checked m (with-ring-at-least (c .ipr .ring) (as-pointer p))
     unfolding Check.check unless-refused
@@ -69,4 +79,4 @@ module _ (r : Registers) (c : Core) (w : Converted r c) (memory : List ℕ) (p :
       says-passes d k f = sym (check-passes m t d k (rw f at s)) ∙ raised-on
 
       pub ring-passed : (d : Descriptor) (k : ℕ) → x ≡ Ring d k → k ≤ 7
-      ring-passed d k f = (rw f at s) .1 .1
+      ring-passed d k f = (rw f at s) .2

@@ -1,11 +1,11 @@
 // May I call there? CALL's check of any pointer, over a register record and a memory that are only read.
 ghost use mathlib.Core.Path.{_≡_};
 ghost use Prim.Native.Nat.{_≤_};
-ghost use Rattle.model.specs.Registers.{with-ring-at-least};
+ghost use Rattle.model.specs.Registers.{zero-pointer, with-ring-at-least};
 ghost use Rattle.model.specs.Answers.{check-numbers};
-ghost use Rattle.model.specs.Check as Check;
+ghost use Rattle.model.specs.Check.{check};
 ghost use Rattle.words.specs.View.{as-pointer, Pointer-within};
-ghost use Rattle.host.specs.Record.{machine-of, delivery-of};
+ghost use Rattle.host.specs.Record.{pointer-of, machine-of, delivery-of};
 ghost use Rattle.checks.specs.View.{as-check, Verdict-within, as-numbers};
 use control::Checked;
 use host::record::Registers;
@@ -36,7 +36,7 @@ fn raised(p: Pointer, ring: u64) -> Pointer
 
 // 1 to 4, the pointer under 2 as well; then 11 to 15 and 26 to 30 of the pointer, its ring raised.
 pub fn ask(registers: Registers, memory: &[u64], ring: u8, segment: u16, word: u16) -> Verdict
-    ensures { λ x. ⌜ (as-check x ≡ Check.check (delivery-of registers) (machine-of registers (now (memory .entry))) (record { ring = ring; segment = segment; word = word })) × Verdict-within x ⌝ }
+    ensures { λ x. ⌜ (as-check x ≡ check (delivery-of registers) (machine-of registers (now (memory .entry))) (record { ring = ring; segment = segment; word = word })) × Verdict-within x ⌝ }
 {
     let core = host::record::core_of(registers);
     let prs = registers.prs;
@@ -66,7 +66,7 @@ pub struct Check {
 }
 
 fn nowhere() -> host::record::Pointer
-    ensures { λ p. ⌜ p ≡ record { ring = 0; segment = 0; word = 0 } ⌝ }
+    ensures { λ p. ⌜ pointer-of p ≡ zero-pointer ⌝ }
 {
     host::record::Pointer {
         ring: 0,
@@ -103,7 +103,7 @@ fn numbers_of(verdict: Verdict) -> Check
 
 // The same as numbers.
 pub fn may_call(registers: Registers, memory: &[u64], ring: u8, segment: u16, word: u16) -> Check
-    ensures { λ x. ⌜ as-numbers x ≡ check-numbers (Check.check (delivery-of registers) (machine-of registers (now (memory .entry))) (record { ring = ring; segment = segment; word = word })) ⌝ }
+    ensures { λ x. ⌜ as-numbers x ≡ check-numbers (check (delivery-of registers) (machine-of registers (now (memory .entry))) (record { ring = ring; segment = segment; word = word })) ⌝ }
 {
     numbers_of(ask(registers, memory, ring, segment, word))
 }

@@ -91,10 +91,10 @@ module _ (v : Delivery) (m : Machine) (e : start-questions v m ≡ 0) where
 module _ (v : Delivery) (m : Machine) (e : start-questions v m ≡ 0) (now : Machine) (same : now ≡ m) (y : Settled) (prs memory : List ℕ)
     (d : Settles v now y (as-machine (y .core) prs memory)) where
   pub ipr-completed : y .end ≡ Completed → Pointer-within (y .core .ipr)
-  ipr-completed f = ipr-passing (y .core) prs memory (passes-completed v m e now same y (as-machine (y .core) prs memory) d f)
+  ipr-completed f = ipr-passing _ (y .core) prs memory (passes-completed v m e now same y (as-machine (y .core) prs memory) d f)
 
   pub ipr-halted : y .end ≡ Halted → Pointer-within (y .core .ipr)
-  ipr-halted f = ipr-passing (y .core) prs memory (passes-halted v m e now same y (as-machine (y .core) prs memory) d f)
+  ipr-halted f = ipr-passing _ (y .core) prs memory (passes-halted v m e now same y (as-machine (y .core) prs memory) d f)
 
 -- and the part that it is
 module _ (v : Delivery) (b c before : ℕ) (m : Machine) (t : List ℕ) (e : start-questions v m ≡ 0) (h : c < b) (last : ℕ) (counted : last ≡ pointer-words m) (few : last ≤ 64)

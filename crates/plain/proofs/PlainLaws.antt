@@ -29,13 +29,13 @@ use Rattle.plain.specs.Plain.{Plain-as}
 -- WHERE 1 TO 4 PASS, the core fits the host's record
 pub passing-in-record : (c : Core) (prs m : List ℕ) → start-questions no-delivery (as-machine c prs m) ≡ 0 → In-record c
 passing-in-record c prs m e =
-    let h = ipr-passing c prs m e in
+    let h = ipr-passing _ c prs m e in
     record {
       ring-fits = let z = h .ring-within in omega arith;
       segment-fits = let z = h .segment-within in omega arith;
       word-fits = h .word-within;
-      address-fits = let z = address-passing c prs m e in omega arith;
-      length-fits = let z = length-passing c prs m e in omega arith;
+      address-fits = let z = address-passing _ c prs m e in omega arith;
+      length-fits = let z = length-passing _ c prs m e in omega arith;
     }
 
 -- POINTER WORDS as a single step or as a run

@@ -82,7 +82,7 @@ module _ (b s r : ℕ) (m : Machine) (t₀ : List ℕ) (x : After) (prs memory t
     turn-pointers = let h = turn-part in let k = inv .read-within in omega arith
 
     pub turn-needs : Ready (x .core) memory × (all pointer-in-range (as-pointers prs) ≡ true) × Pointer-within t
-    turn-needs = (ready-passing (x .core) prs memory (inv .way .passes), prs-in-range (x .core) prs memory (inv .way .passes), inv .ready e .1 .within)
+    turn-needs = (ready-passing _ (x .core) prs memory (inv .way .passes), prs-in-range _ (x .core) prs memory (inv .way .passes), inv .ready e .1 .within)
 
     module _ (y : After) (prs-now memory-now : List ℕ)
         (h : Does (x .core) (x .code) (as-pointers prs) memory (dispatched-in (as-machine (x .core) prs memory) w (as-pointer t)) y (as-pointers prs-now) memory-now) where
@@ -93,7 +93,7 @@ module _ (b s r : ℕ) (m : Machine) (t₀ : List ℕ) (x : After) (prs memory t
       turn-passes = passing-after _ (y .end) _ stepped (inv .way .passes)
 
       pub turn-ipr : Pointer-within (y .core .ipr)
-      turn-ipr = ipr-passing (y .core) prs-now memory-now turn-passes
+      turn-ipr = ipr-passing _ (y .core) prs-now memory-now turn-passes
 
       -- a fault
       pub turn-faults : (n : ℕ) (p : Pointer) → y .end ≡ Faulted n p →

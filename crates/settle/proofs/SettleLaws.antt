@@ -31,10 +31,10 @@ module _ (dv : Delivery) where
     pub savable-passing : Savable c prs
     savable-passing =
         record {
-          ipr-within = ipr-passing c prs m e;
-          address-within = address-passing c prs m e;
-          length-within = length-passing c prs m e;
-          prs-in-range = prs-in-range c prs m e;
+          ipr-within = ipr-passing _ c prs m e;
+          address-within = address-passing _ c prs m e;
+          length-within = length-passing _ c prs m e;
+          prs-in-range = prs-in-range _ c prs m e;
         }
 
   -- A STEP THAT FAULTS: what delivering answered

@@ -19,7 +19,7 @@ use Rattle.state.specs.declared.Core.{Core}
 pub pointer-passing : (p : Pointer) → pointer-in-range (as-pointer p) ≡ true → Pointer-within p
 pointer-passing p e = let h = in-range-within _ e in record { ring-within = h .ring-within; segment-within = h .segment-within; word-within = h .word-within }
 
-module _ {v : Delivery} (c : Core) (prs m : List ℕ) (e : start-questions v (as-machine c prs m) ≡ 0) where
+module _ (v : Delivery) (c : Core) (prs m : List ℕ) (e : start-questions v (as-machine c prs m) ≡ 0) where
   in-range : registers-in-range v (as-machine c prs m .registers) ≡ true
   unfolding start-questions
   in-range = ask-yes _ _ _ (ask-yes _ _ _ e .1) .0

@@ -10,7 +10,7 @@ returns : tie.Need-returns
 returns c = search needs
 
 quick-requires : tie.Need-quick-requires
-quick-requires c κs = let e = c .before .before .pre in (ready-passing _ _ _ (e .0), prs-in-range _ _ _ (e .0), e .1)
+quick-requires c κs = let e = c .before .before .pre in (ready-passing _ _ _ _ (e .0), prs-in-range _ _ _ _ (e .0), e .1)
 
 returns-2 : tie.Need-returns-2
 returns-2 c =

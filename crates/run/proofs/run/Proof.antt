@@ -23,7 +23,7 @@ loop-holds : tie.Need-loop-holds Inv-loop μ-loop
 loop-holds c = (way-starts _ _ _ _ _ _ (omega arith) (c .before .before .pre), omega arith)
 
 form-requires : tie.Need-form-requires Inv-loop μ-loop
-form-requires c κs = (ready-passing _ _ _ (c .before .before .before .loop .inv .0 .passes), prs-in-range _ _ _ (c .before .before .before .loop .inv .0 .passes))
+form-requires c κs = (ready-passing _ _ _ _ (c .before .before .before .loop .inv .0 .passes), prs-in-range _ _ _ _ (c .before .before .before .loop .inv .0 .passes))
 
 enum-known-n : tie.Need-enum-known-n Inv-loop μ-loop
 enum-known-n c = search needs
