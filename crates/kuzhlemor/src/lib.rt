@@ -2,7 +2,7 @@
 // an image run whole, and a stored one converted.
 ghost use mathlib.Core.Path.{_≡_};
 ghost use Rattle.model.specs.Answers.{check-numbers};
-ghost use Rattle.model.specs.Check as Check;
+ghost use Rattle.model.specs.Check.{check};
 ghost use Rattle.model.specs.Bench as Bench;
 ghost use Rattle.model.specs.Convert.{convert-call};
 ghost use Rattle.host.specs.Record.{machine-of, delivery-of};
@@ -40,7 +40,7 @@ pub extern "C" fn kuzhlemor_may_call(
     segment: u16,
     word: u16,
 ) -> Check
-    ensures { λ x. ⌜ as-numbers x ≡ check-numbers (Check.check (delivery-of (now (registers .entry))) (machine-of (now (registers .entry)) (now (memory .entry))) (record { ring = ring; segment = segment; word = word })) ⌝ }
+    ensures { λ x. ⌜ as-numbers x ≡ check-numbers (check (delivery-of (now (registers .entry))) (machine-of (now (registers .entry)) (now (memory .entry))) (record { ring = ring; segment = segment; word = word })) ⌝ }
 {
     checks::may_call(*registers, memory, ring, segment, word)
 }
