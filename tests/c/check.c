@@ -5,7 +5,7 @@
 #include <stdio.h>
 
 enum {
-    MACHINES = 100000,
+    MACHINES = 40000,
     POINTERS = 8,
     CODE = 1,
     TARGET = 2,
