@@ -190,8 +190,8 @@ static int transfer(kuzhlemor_registers *r, uint64_t d, kuzhlemor_pointer tpr)
     return COMPLETED;
 }
 
-/* 26 to 30. */
-static int call(kuzhlemor_registers *r, uint64_t d, kuzhlemor_pointer tpr)
+/* 26 to 30, for a CALL at IPR: the new ring, or the number of the first no. */
+static inline int check_call(const kuzhlemor_registers *r, uint64_t d, kuzhlemor_pointer tpr, uint8_t *new_ring)
 {
     uint8_t ring = (uint8_t)smaller(tpr.ring, r2(d));
 
@@ -205,6 +205,18 @@ static int call(kuzhlemor_registers *r, uint64_t d, kuzhlemor_pointer tpr)
         return 29;
     if (ring > r->ipr.ring)
         return 30;
+    *new_ring = ring;
+    return 0;
+}
+
+/* CALL: its check, and the move by its ring. */
+static int call(kuzhlemor_registers *r, uint64_t d, kuzhlemor_pointer tpr)
+{
+    uint8_t ring;
+    int number = check_call(r, d, tpr, &ring);
+
+    if (number != 0)
+        return number;
     r->ipr = (kuzhlemor_pointer){ring, tpr.segment, tpr.word};
     r->prs[7] = (kuzhlemor_pointer){ring, ring, 0};
     return COMPLETED;

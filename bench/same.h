@@ -1,4 +1,4 @@
-/* Equality of replies and registers, field by field: padding doesn't count. */
+/* Equality of replies, checks and registers, field by field: padding doesn't count. */
 #ifndef SAME_H
 #define SAME_H
 
@@ -15,6 +15,11 @@ static inline bool same_reply(kuzhlemor_reply x, kuzhlemor_reply y)
 {
     return x.kind == y.kind && x.number == y.number && x.count == y.count && same_pointer(x.pointer, y.pointer) &&
            x.pointer_words == y.pointer_words;
+}
+
+static inline bool same_check(kuzhlemor_check x, kuzhlemor_check y)
+{
+    return x.kind == y.kind && x.number == y.number && x.ring == y.ring && same_pointer(x.pointer, y.pointer);
 }
 
 static inline bool same_registers(const kuzhlemor_registers *x, const kuzhlemor_registers *y)

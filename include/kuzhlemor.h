@@ -79,7 +79,9 @@ enum {
      * answered no; pointer: the address and ring under question; count: the steps completed before it. A single step: 0.
      * pointer_words: how many those steps read; what the faulting step read isn't in it. A single step: how many the
      * faulting step itself read. */
-    KUZHLEMOR_FAULT = 3
+    KUZHLEMOR_FAULT = 3,
+    /* Of kuzhlemor_may_call alone. ring: the ring that the call would go on in. */
+    KUZHLEMOR_PASSES = 4
 };
 
 /* A step reads 0 to 64 pointer words, those through which its address is formed. One counts once it has been read: a
@@ -102,6 +104,22 @@ kuzhlemor_reply kuzhlemor_step(kuzhlemor_registers *registers, uint64_t *memory,
  * step of the budget is halted. With a budget of 0 it asks 1 to 4 and answers refused or spent. A run that was spent goes on
  * where it stopped when record and memory are lent again as they were left. */
 kuzhlemor_reply kuzhlemor_run(kuzhlemor_registers *registers, uint64_t *memory, size_t words, uint32_t budget);
+
+/* What kuzhlemor_may_call answers: KUZHLEMOR_REFUSED, KUZHLEMOR_FAULT with the number and the pointer under question, or
+ * KUZHLEMOR_PASSES. What a kind doesn't name is 0. */
+typedef struct {
+    uint32_t kind;
+    uint32_t number;
+    uint32_t ring;
+    kuzhlemor_pointer pointer;
+} kuzhlemor_check;
+
+/* May a CALL go there? Answers as if one stood at IPR: 1 to 4 are asked, 2 of the pointer handed in as well (its ring at most 7,
+ * its segment at most 4,095); the pointer's ring is raised to at least IPR's; then 11 to 15 and 26 to 30. Any pointer may be
+ * asked for, not only one that a program has formed. Whether IPR itself may be fetched isn't asked. Record and memory are only
+ * read. Nothing is delivered, whatever the switch says. */
+kuzhlemor_check kuzhlemor_may_call(const kuzhlemor_registers *registers, const uint64_t *memory, size_t words, uint8_t ring,
+                                   uint16_t segment, uint16_t word);
 
 /* Loads an image, runs it and writes its listing into text: a line for each completed step (its number, IPR's ring, segment
  * and word after it, and how many pointer words it read) and a last line (`spent COUNT TOTAL`, `halted COUNT TOTAL` or
@@ -164,6 +182,9 @@ static_assert(offsetof(kuzhlemor_reply, number) == 4, "number");
 static_assert(offsetof(kuzhlemor_reply, count) == 8, "count");
 static_assert(offsetof(kuzhlemor_reply, pointer) == 12, "pointer");
 static_assert(offsetof(kuzhlemor_reply, pointer_words) == 24, "pointer words");
+static_assert(sizeof(kuzhlemor_check) == 20, "size of a check");
+static_assert(offsetof(kuzhlemor_check, ring) == 8, "ring of a check");
+static_assert(offsetof(kuzhlemor_check, pointer) == 12, "pointer of a check");
 #ifdef __cplusplus
 static_assert(alignof(kuzhlemor_registers) == 8, "alignment of the registers");
 #else

@@ -119,6 +119,14 @@ pub fn read_stored_image(bytes: &[u8]) -> Result<Image, u8> {
 }
 
 fn read(bytes: &[u8], rules: Rules) -> Result<Image, u8> {
+    let image = read_records(bytes, rules)?;
+    // 1 to 4
+    refusal(&image.registers, image.memory.len())?;
+    Ok(image)
+}
+
+/// The image of its records alone: 41 to 44 and 51, but not 1 to 4.
+pub(crate) fn read_records(bytes: &[u8], rules: Rules) -> Result<Image, u8> {
     let mut bytes = Bytes(bytes);
     // The words that WDs have given.
     let mut given: Option<Vec<Option<u64>>> = None;
@@ -173,8 +181,6 @@ fn read(bytes: &[u8], rules: Rules) -> Result<Image, u8> {
     let (Some(registers), Some(given), Some(budget)) = (registers, given, budget) else {
         return Err(42);
     };
-    // 1 to 4
-    refusal(&registers, given.len())?;
     // Memory is all zero but for the words given.
     let memory = given.into_iter().map(Option::unwrap_or_default).collect();
     Ok(Image { registers, memory, budget })

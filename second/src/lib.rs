@@ -1,22 +1,24 @@
-//! A second implementation of the ring processor, written from document 01 and requests L1, L2 and L4 of document 02
-//! alone, to be compared with the first.
+//! A second implementation of the ring processor, written from document 01 and requests L1, L2, L4 and L5 of
+//! document 02 alone, to be compared with the first.
 //!
 //! It reads like the paper: `words` has the descriptor, the pointer word and the instruction; `machine` the registers,
-//! the questions, a step and a run; `frame` what a delivered fault leaves; `image` the records; `listing` the text;
-//! `bench` the call of the bench's firmware; `convert` the program for stored images. `repeats` and `states` have directed
-//! images, `pointers` and `delivery` directed machines with what each of them asks for, and `opcodes` the numbers that
-//! they use; they are for the tests and the comparison. A comment that starts with a number is the question of that
-//! number.
+//! the questions, a step, a run and the check of CALL; `frame` what a delivered fault leaves; `image` the records;
+//! `listing` the text; `bench` the call of the bench's firmware; `convert` the program for stored images; `may_call` the
+//! program that asks the check. `repeats` and `states` have directed images, `pointers` and `delivery` directed machines
+//! with what each of them asks for, `calls` pointers for the check with its answers, and `opcodes` the numbers that they
+//! use; they are for the tests and the comparison. A comment that starts with a number is the question of that number.
 
 #![forbid(unsafe_code)]
 
 pub mod bench;
+pub mod calls;
 pub mod convert;
 pub mod delivery;
 pub mod frame;
 pub mod image;
 pub mod listing;
 pub mod machine;
+pub mod may_call;
 pub mod opcodes;
 pub mod pointers;
 pub mod repeats;
@@ -27,7 +29,8 @@ pub use bench::bench;
 pub use convert::{convert, converted};
 pub use image::{read_image, read_stored_image, Image, Rules};
 pub use listing::list;
-pub use machine::{run, step, step_and_fault, Fault, Registers, Reply};
+pub use machine::{may_call, run, step, step_and_fault, Check, Fault, Registers, Reply};
+pub use may_call::may_call_text;
 pub use words::{Dbr, Descriptor, Instruction, Opcode, Pointer, PointerWord};
 
 #[cfg(test)]

@@ -44,6 +44,15 @@ pub struct Fault {
     pub at: Pointer,
 }
 
+/// What the check of CALL answers: a fault has the pointer that was asked about, its ring raised to at least IPR's; one
+/// that passes has the new ring.
+#[derive(Clone, Copy, Debug, PartialEq, Eq)]
+pub enum Check {
+    Refused { number: u8 },
+    Fault(Fault),
+    Passes { ring: u8 },
+}
+
 /// What a completed step leaves to do.
 #[derive(Clone, Copy, Debug, PartialEq, Eq)]
 enum Completed {
@@ -73,12 +82,17 @@ pub const MEMORY_LIMIT: usize = 16_777_216;
 
 /// The number of the first question of 1 to 4 that is answered no.
 pub fn refusal(registers: &Registers, words: usize) -> Result<(), u8> {
+    refusal_with(registers, &[], words)
+}
+
+/// The same where pointers are handed in beside the registers: they are under 2 as well, and under nothing else.
+fn refusal_with(registers: &Registers, handed_in: &[Pointer], words: usize) -> Result<(), u8> {
     // 1
     if !memory_is_allowed(words) {
         return Err(1);
     }
     // 2
-    if !fields_are_in_range(registers) {
+    if !fields_are_in_range(registers) || !handed_in.iter().all(pointer_is_in_range) {
         return Err(2);
     }
     // 3
@@ -98,15 +112,19 @@ fn memory_is_allowed(words: usize) -> bool {
 }
 
 /// 2: are rings ≤ 7, SEGNO ≤ 4,095, WORDNO ≤ 65,535, DBR ADDRESS ≤ 16,777,215, the switch ≤ 1, save and handler segment
-/// ≤ 4,095? (A u16 is never above 65,535.)
+/// ≤ 4,095?
 fn fields_are_in_range(registers: &Registers) -> bool {
-    let in_range = |pointer: &Pointer| pointer.ring <= 7 && pointer.segno <= 4_095;
-    in_range(&registers.ipr)
-        && registers.pr.iter().all(in_range)
+    pointer_is_in_range(&registers.ipr)
+        && registers.pr.iter().all(pointer_is_in_range)
         && registers.dbr.address <= 16_777_215
         && registers.fault_switch <= 1
         && registers.save_segment <= 4_095
         && registers.handler_segment <= 4_095
+}
+
+/// 2 of a pointer. (A u16 is never above 65,535.)
+fn pointer_is_in_range(pointer: &Pointer) -> bool {
+    pointer.ring <= 7 && pointer.segno <= 4_095
 }
 
 /// 3, and 52 of a frame's registers: is every PR's RING ≥ IPR.RING?
@@ -352,8 +370,8 @@ fn transfer(registers: &mut Registers, memory: &[u64], tpr: &Pointer) -> Result<
     Ok(())
 }
 
-/// CALL: 11 to 15, 26 to 30.
-fn call(registers: &mut Registers, memory: &[u64], tpr: &Pointer) -> Result<(), Fault> {
+/// CALL's check gives the new ring: 11 to 15, 26 to 30.
+fn check_call(registers: &Registers, memory: &[u64], tpr: &Pointer) -> Result<u8, Fault> {
     let segment = use_segment(&registers.dbr, memory, tpr)?;
     let new_ring = tpr.ring.min(segment.r2);
     ask(26, is_executable(&segment), tpr)?;
@@ -361,9 +379,13 @@ fn call(registers: &mut Registers, memory: &[u64], tpr: &Pointer) -> Result<(), 
     ask(28, is_within_gate_extension(&segment, tpr), tpr)?;
     ask(29, is_not_below_execute_bracket(&segment, tpr), tpr)?;
     ask(30, does_not_raise_the_ring(new_ring, &registers.ipr), tpr)?;
+    Ok(new_ring)
+}
+
+/// CALL's move, by the ring of a check that passed.
+fn move_by_call(registers: &mut Registers, tpr: &Pointer, new_ring: u8) {
     registers.ipr = Pointer { ring: new_ring, ..*tpr };
     registers.pr[7] = Pointer { ring: new_ring, segno: u16::from(new_ring), wordno: 0 };
-    Ok(())
 }
 
 /// RETURN: 11 to 15, 25.
@@ -469,7 +491,8 @@ fn use_operand(
             }
         }
         Opcode::Call => {
-            call(registers, memory, tpr)?;
+            let new_ring = check_call(registers, memory, tpr)?;
+            move_by_call(registers, tpr, new_ring);
             return Ok(Completed::GoOn);
         }
         Opcode::Return => {
@@ -491,6 +514,21 @@ fn use_operand(
 /// IPR.WORDNO goes up by one modulo 65,536.
 fn advance(registers: &mut Registers) {
     registers.ipr.wordno = registers.ipr.wordno.wrapping_add(1);
+}
+
+// ---- The check of CALL as a call of its own.
+
+/// Would a call of this pointer pass, as if a CALL stood at IPR? 1 to 4, the pointer being under 2 as well; then its ring
+/// is raised to at least IPR's, and CALL's check follows. The fetch at IPR isn't asked about, and no fault is delivered.
+pub fn may_call(registers: &Registers, memory: &[u64], pointer: &Pointer) -> Check {
+    if let Err(number) = refusal_with(registers, std::slice::from_ref(pointer), memory.len()) {
+        return Check::Refused { number };
+    }
+    let raised = Pointer { ring: pointer.ring.max(registers.ipr.ring), ..*pointer };
+    match check_call(registers, memory, &raised) {
+        Ok(ring) => Check::Passes { ring },
+        Err(fault) => Check::Fault(fault),
+    }
 }
 
 // ---- Faults that are delivered.

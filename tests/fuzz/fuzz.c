@@ -1,6 +1,6 @@
 /* A fuzzer's input compared: the plain C processor, built for coverage, and the library must give the same answer, registers
  * and memory, byte for byte. An input's first byte says whether the rest is an image, which is run, and converted and then run,
- * or a register record and a memory. */
+ * or a register record and a memory, which are run, and asked whether a call may go to some pointers. */
 #include "images.h"
 #include "kuzhlemor.h"
 #include "padding.h"
@@ -65,7 +65,20 @@ static void compare_conversions(const uint8_t *image, size_t length, uint8_t how
     free(y);
 }
 
-/* The record of an ST, then the words of memory; a run, and a step after it. The library's record has the input's last bytes
+/* CALL's check of the pointer that three of the input's bytes make, and of each PR. */
+static void compare_checks(const kuzhlemor_registers *r, const kuzhlemor_registers *s, const uint64_t *memory, size_t words,
+                           const uint8_t *bytes)
+{
+    for (int k = 0; k <= 8; k++) {
+        kuzhlemor_pointer p = k < 8 ? r->prs[k] : (kuzhlemor_pointer){bytes[0] >> 4, bytes[1], bytes[2]};
+        kuzhlemor_check x = plain_may_call(r, memory, words, p.ring, p.segment, p.word);
+        kuzhlemor_check y = kuzhlemor_may_call(s, memory, words, p.ring, p.segment, p.word);
+
+        require(same_check(x, y), "a check's answer");
+    }
+}
+
+/* The record of an ST, then the words of memory; checks, a run, and a step after it. The library's record has the input's last bytes
  * as padding, whatever else they are. */
 static void compare_machines(const uint8_t *bytes, size_t length, uint8_t how)
 {
@@ -86,6 +99,7 @@ static void compare_machines(const uint8_t *bytes, size_t length, uint8_t how)
         x[k] = y[k] = number_at(bytes + RECORD + 8 * k, 8);
     s = r;
     put_padding(&s, bytes + length - PADDING);
+    compare_checks(&r, &s, y, words, bytes + length - 3);
     require(same_reply(plain_run(&r, x, words, budget), kuzhlemor_run(&s, y, words, budget)), "a run's reply");
     require(same_registers(&r, &s), "the registers after a run");
     require(memcmp(x, y, 8 * words) == 0, "a word after a run");

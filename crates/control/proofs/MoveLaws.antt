@@ -2,31 +2,34 @@
 use mathlib.Core.Path.{_≡_, refl, sym, _∙_, ap}
 use mathlib.Core.Bool.{Bool, true, false, not, _&&_}
 use mathlib.Core.List.{List, [], map}
-use Prim.Native.Nat.{ℕ, _≤_}
+use Prim.Native.Nat.{ℕ, zero, suc, _≤_}
 use native.Mathlib.Omega.{arith}
 use lib.Dec.{leb}
 use lib.ListN.{length, set}
 use borrow.Author.Tests.{leb-true, le-leb, not-true, not-false}
 use Rattle.model.specs.Words as Words
 use Rattle.model.specs.Words.{Pointer, descriptor-in}
-use Rattle.model.specs.Registers.{Registers, machine, with-ipr, with-pr, with-prs, with-ring-at-least}
+use Rattle.model.specs.Registers.{Dbr, Registers, Machine, machine, with-ipr, with-pr, with-prs, with-ring-at-least}
 use Rattle.model.specs.Questions.{segment-questions, may-execute, return-questions, transfer-questions, new-ring, call-questions}
-use Rattle.model.specs.Program.{Program, finish, execute}
+use Rattle.model.specs.Program.{Program, finish, execute, descriptor-of}
 use Rattle.model.specs.Step as Step
+use Rattle.model.specs.Check as Check
 use Rattle.model.proofs.BranchLaws.{and-left, and-both}
 use Rattle.model.proofs.QuestionLaws.{ask-yes}
 use Rattle.words.specs.View.{as-pointer}
 use Rattle.words.specs.declared.descriptor.Descriptor.{Descriptor}
 use Rattle.words.specs.declared.pointer.Pointer as Code
 use Rattle.opcodes.specs.Table.{taken}
-use Rattle.segments.specs.Translation.{as-dbr, descriptor-answer, looked, Code-right}
+use Rattle.segments.specs.Translation.{as-dbr, descriptor-word, descriptor-answer, looked, Code-right}
+use Rattle.segments.proofs.UseLaws.{looks-passes, use-answer-by}
 use Rattle.state.specs.View.{registers-with, machine-with, Does, Does-with-any-prs, Completes, faulted-after}
 use Rattle.state.specs.declared.Core.{Core}
 use Rattle.state.specs.declared.After.{After}
 use Rattle.segments.specs.declared.translate.Translated.{Translated}
 use Rattle.segments.specs.declared.translate.Translated.the-variants.{Refused, Passed}
 use Rattle.state.proofs.DoesLaws.{does-complete, does-as, does-advance, does-refused-look, look-goes-on}
-use Rattle.control.specs.Call.{Enters}
+use Rattle.control.specs.Call.{Enters, checked-by}
+use Rattle.control.specs.declared.Checked.the-variants.{Bad, Ring}
 
 -- A RIGHT DESCRIPTOR: what 25 or 26 to 30 say of it, with 13
 module _ (n w : ℕ) (e : descriptor-answer n w ≡ 0) where
@@ -108,13 +111,13 @@ pub ruleset moves = (transfer-not-taken, transfer-refused, transfer-passes)
 -- CALL
 module _ (c : Core) (d : Descriptor) (ps : List Pointer) (m : List ℕ) (t : Pointer) (y : Translated) (s : looked (as-dbr (c .dbr)) m t (call-questions (as-pointer (c .ipr)) t) y) (x : After) where
   pub call-refused : (n : ℕ) (u : Code.Pointer) → y ≡ Refused n → x ≡ faulted-after c d n u → as-pointer u ≡ t → Does c d ps m (Step.call (registers-with c ps) t) x ps m
-  unfolding Step.call
+  unfolding Step.call Step.check-call
   call-refused n u e f h = does-refused-look c d ps m t _ y s _ n u e x f h
 
   pub call-enters : (e : Descriptor) (n : ℕ) (q : Pointer) (ps-now : List Pointer) → y ≡ Passed e → n ≡ new-ring t (descriptor-in (e .0)) → q ≡ Step.stack-base n →
       ps-now ≡ set ps 7 q → (u : Code.Pointer) → Enters c u e x → as-pointer u ≡ record { ring = n; segment = t .segment; word = t .word } →
       Does c d ps m (Step.call (registers-with c ps) t) x ps-now m
-  unfolding Step.call Step.called with-ipr with-pr with-prs
+  unfolding Step.call Step.check-call Step.called with-ipr with-pr with-prs
   call-enters e n q ps-now f k b z u h g =
       let w = rw f at s in
       let ring-same : u .ring ≡ n = ap (λ (p : Pointer). p .ring) g in
@@ -122,6 +125,30 @@ module _ (c : Core) (d : Descriptor) (ps : List Pointer) (m : List ℕ) (t : Poi
       (look-goes-on c d ps m t _ y s _ e f ∙ rw (← k, g, z, b))
 
 pub ruleset calls = (call-refused, call-enters)
+
+-- its check, by the look
+module _ (b : Dbr) (m : List ℕ) (ipr t : Pointer) (y : Translated) (s : looked b m t (call-questions ipr t) y) where
+  pub check-bad : (n : ℕ) → y ≡ Refused n → checked-by b m ipr t (Bad n)
+  check-bad n e = rw e at s
+
+  pub check-ring : (d : Descriptor) (n : ℕ) → y ≡ Passed d → n ≡ new-ring t (descriptor-in (d .0)) → n ≤ 7 → checked-by b m ipr t (Ring d n)
+  check-ring d n e f g = (rw e at s, f, g)
+
+-- what it answers of a machine is the definition's
+module _ (m : Machine) (t : Pointer) where
+  pub check-faults : (n : ℕ) → checked-by (m .registers .dbr) (m .memory) (m .registers .ipr) t (Bad n) → Check.checked m t ≡ Check.fault n t
+  unfolding Check.checked Check.answered
+  check-faults n s = ap (λ a. Check.answered a t (new-ring t (descriptor-of m (t .segment)))) (use-answer-by m t _ ∙ s .0) ∙ by-number n (s .1)
+    where
+      by-number : (k : ℕ) → 1 ≤ k → Check.answered k t (new-ring t (descriptor-of m (t .segment))) ≡ Check.fault k t
+      by-number zero h = absurd (omega arith)
+      by-number (suc k) h = refl
+
+  pub check-passes : (d : Descriptor) (n : ℕ) → checked-by (m .registers .dbr) (m .memory) (m .registers .ipr) t (Ring d n) → Check.checked m t ≡ Check.passes n
+  unfolding Check.checked Check.answered descriptor-of descriptor-word
+  check-passes d n s =
+      ap (λ a. Check.answered a t (new-ring t (descriptor-of m (t .segment)))) (use-answer-by m t _ ∙ looks-passes (m .registers .dbr) (m .memory) t _ (d .0) (s .0))
+      ∙ ap Check.passes (ap (λ w. new-ring t (descriptor-in w)) (sym (s .0 .found .same)) ∙ sym (s .1))
 
 -- RETURN
 module _ (c : Core) (d : Descriptor) (ps : List Pointer) (m : List ℕ) (t : Pointer) (y : Translated) (s : looked (as-dbr (c .dbr)) m t (return-questions t) y) (x : After) where

@@ -1,13 +1,15 @@
 // The opcodes that move control: transfers, CALL and RETURN.
 ghost use mathlib.Core.Path.{_≡_};
 ghost use mathlib.Core.List.{map};
-ghost use Prim.Native.Nat.{_≤_};
+ghost use Prim.Native.Nat.{_+_, _≤_};
+ghost use lib.ListN.{length};
 ghost use Rattle.model.specs.Registers as Registers;
 ghost use Rattle.model.specs.Step as Step;
 ghost use Rattle.words.specs.View.{as-pointer, Pointer-within};
 ghost use Rattle.opcodes.specs.Table.{taken};
+ghost use Rattle.segments.specs.Translation.{as-dbr};
 ghost use Rattle.state.specs.View.{as-registers, as-pointers, Ready, Does, Does-with-any-prs};
-ghost use Rattle.control.specs.Call.{Enters};
+ghost use Rattle.control.specs.Call.{Enters, checked-by};
 use questions::Use;
 use segments::translate::Dbr;
 use segments::translate::Translated;
@@ -58,16 +60,32 @@ fn stack_base(ring: u64) -> Pointer
     }
 }
 
+// What CALL's check gives: the first no, or the segment's descriptor and the new ring.
+pub enum Checked {
+    Bad(u8),
+    Ring(Descriptor, u64),
+}
+
+// 11 to 15 and 26 to 30 of a pointer, for a CALL at `ipr`.
+pub fn check(dbr: Dbr, memory: &[u64], ipr: Pointer, t: Pointer) -> Checked
+    requires { ⌜ dbr .address + dbr .length ≤ length (now memory) ⌝ }
+    ensures { λ x. ⌜ checked-by (as-dbr dbr) (now (memory .entry)) (as-pointer ipr) (as-pointer t) x ⌝ }
+{
+    match segments::access::look(Use::Call, dbr, memory, ipr, t) {
+        Translated::Refused(n) => Checked::Bad(n),
+        Translated::Passed(d) => Checked::Ring(d, questions::new_ring(t, d)),
+    }
+}
+
 pub fn call(core: Core, code: Descriptor, prs: &mut [u16; 24], memory: &[u64], t: Pointer) -> After
     requires { ⌜ Ready core (now memory) ⌝ }
     ensures { λ x. ⌜ Does core code (as-pointers (now (prs .entry))) (now (memory .entry)) (Step.call (as-registers core (now (prs .entry))) (as-pointer t)) x (as-pointers (now (prs .exit))) (now (memory .entry)) ⌝ }
 {
     let dbr = core.dbr;
     let ipr = core.ipr;
-    match segments::access::look(Use::Call, dbr, memory, ipr, t) {
-        Translated::Refused(n) => state::faulted(core, code, n, t),
-        Translated::Passed(d) => {
-            let ring = questions::new_ring(t, d);
+    match check(dbr, memory, ipr, t) {
+        Checked::Bad(n) => state::faulted(core, code, n, t),
+        Checked::Ring(d, ring) => {
             state::prs::set_pr(prs, 7, stack_base(ring));
             let mut p = t;
             p.ring = ring;

@@ -23,13 +23,14 @@ use Rattle.state.specs.View.{as-pointers, machine-with, as-machine, ended}
 use Rattle.state.specs.declared.Core.{Core}
 use Rattle.state.specs.declared.End.{End}
 use Rattle.state.specs.declared.End.the-variants.{Completed, Halted, Faulted}
+use Rattle.state.proofs.PassingLaws.{ipr-passing}
 use Rattle.dispatch.specs.Plain.{plain-step, stopped}
 use Rattle.dispatch.proofs.PlainLaws.{plain-stops}
 use Rattle.settle.specs.Settles.{End-within, Settles}
 use Rattle.restore.specs.declared.Settled.{Settled}
 use Rattle.run.specs.Run.{last-by, Noted, On-the-way}
 use Rattle.run.specs.declared.Reply.the-variants as Reply
-use Rattle.run.proofs.RunLaws.{ipr-passing, run-faults, trace-faults, last-faults, way-starts, way-faults, way-halts, way-goes-on}
+use Rattle.run.proofs.RunLaws.{run-faults, trace-faults, last-faults, way-starts, way-faults, way-halts, way-goes-on}
 use Rattle.answers.specs.declared.Answered.{Answered}
 use Rattle.plain.specs.Plain.{Plain-as}
 use Rattle.delivered.specs.Parts.{At-a-stop, Part-as}
@@ -87,16 +88,13 @@ module _ (v : Delivery) (m : Machine) (e : start-questions v m ≡ 0) where
       passes-halted f = step-keeps-passing v m k e (inr (halted-so f))
 
 -- IPR fits the trace after it
-ipr-within : (v : Delivery) (c : Core) (prs memory : List ℕ) → start-questions v (as-machine c prs memory) ≡ 0 → Pointer-within (c .ipr)
-ipr-within v c prs memory e = ipr-passing c prs memory (passes-plainly v (as-machine c prs memory) e (as-machine c prs memory) e)
-
 module _ (v : Delivery) (m : Machine) (e : start-questions v m ≡ 0) (now : Machine) (same : now ≡ m) (y : Settled) (prs memory : List ℕ)
     (d : Settles v now y (as-machine (y .core) prs memory)) where
   pub ipr-completed : y .end ≡ Completed → Pointer-within (y .core .ipr)
-  ipr-completed f = ipr-within v (y .core) prs memory (passes-completed v m e now same y (as-machine (y .core) prs memory) d f)
+  ipr-completed f = ipr-passing _ (y .core) prs memory (passes-completed v m e now same y (as-machine (y .core) prs memory) d f)
 
   pub ipr-halted : y .end ≡ Halted → Pointer-within (y .core .ipr)
-  ipr-halted f = ipr-within v (y .core) prs memory (passes-halted v m e now same y (as-machine (y .core) prs memory) d f)
+  ipr-halted f = ipr-passing _ (y .core) prs memory (passes-halted v m e now same y (as-machine (y .core) prs memory) d f)
 
 -- and the part that it is
 module _ (v : Delivery) (b c before : ℕ) (m : Machine) (t : List ℕ) (e : start-questions v m ≡ 0) (h : c < b) (last : ℕ) (counted : last ≡ pointer-words m) (few : last ≤ 64)

@@ -10,7 +10,7 @@ use Rattle.model.specs.Registers.{Registers, Delivery, Machine, dbr-in}
 use Rattle.model.specs.Opcodes.{Access, sets, reads, writes, updates, transfers, calls, returns, loads-dbr, ends-run, restores, Opcode}
 use Rattle.model.specs.Questions.{Question, dbr-fits, start-questions}
 use Rattle.model.specs.Program.{Program, fail, finish, look, read, Outcome, faults, completes, halts, use-answer, or-fault, execute, unless-fault, ticks}
-use Rattle.model.specs.Step.{chain, with-operand, load, store, update, transfer, call, return, if-dbr-fits, load-dbr, restore, perform, obey, step-program, step, pointer-words}
+use Rattle.model.specs.Step.{chain, with-operand, load, store, update, transfer, check-call, call, return, if-dbr-fits, load-dbr, restore, perform, obey, step-program, step, pointer-words}
 use Rattle.model.proofs.BranchLaws.{cond-holds}
 use Rattle.model.proofs.WordLaws.{Within}
 use Rattle.model.proofs.FitLaws.{Fit, Formed}
@@ -60,7 +60,7 @@ module _ (m : Machine) (size : ℕ) where
 
   -- WHAT AN OPCODE DOES at its operand
   performs : (k : Access) (i : Instruction) (r : Registers) (t : Pointer) → Alike (plainly size k i r t) (perform size k i r t)
-  unfolding plainly perform load store update transfer call return load-dbr if-dbr-fits execute ticks stopped
+  unfolding plainly perform load store update transfer check-call call return load-dbr if-dbr-fits execute ticks stopped
   performs (sets f) i r t = finishes _
   performs (reads f) i r t = alike-read _ t _ _ (λ d w. finishes _)
   performs (writes f) i r t = record { outcome = after-answer (use-answer m t _) t _ _ refl; count = refl }

@@ -9,6 +9,8 @@ use borrow.Author.Tests.{not-true, not-false, le-leb, lt-leb}
 use Rattle.model.specs.Words.{Pointer}
 use Rattle.model.specs.Registers.{Dbr, Registers, Delivery, no-delivery, Machine}
 use Rattle.model.specs.Questions.{ask, all, memory-fits, pointer-in-range, delivery-in-range, registers-in-range, rings-at-least, dbr-fits, start-questions}
+use Rattle.model.specs.Check.{check-questions}
+use Rattle.model.proofs.DeliveredLaws.{same-start}
 
 -- 1 TO 4, the switch and its segments left out
 module _ (a : ℕ) (d : Dbr) (ipr : Pointer) (ps : List Pointer) (v : List ℕ) where
@@ -74,6 +76,29 @@ refused-1 n h = sym (rw (lt-leb _ _ h))
 pub refused-2 : (n : ℕ) → n ≤ 16777216 → 2 ≡ ask (memory-fits n) 1 2
 unfolding memory-fits ask
 refused-2 n h = sym (rw (le-leb _ _ h))
+
+-- THE CHECK'S: 1, 2 of the pointer and of the switch and its segments, then all that is asked without these
+module _ (v : Delivery) (p : Pointer) (m : Machine) where
+  pub check-1 : 16777216 < length (m .memory) → 1 ≡ check-questions v m p
+  unfolding check-questions memory-fits ask
+  check-1 h = sym (rw (lt-leb _ _ h))
+
+  module _ (one : length (m .memory) ≤ 16777216) (r : Bool) (q : r ≡ pointer-in-range p) where
+    pub check-2-pointer : not r ≡ true → 2 ≡ check-questions v m p
+    unfolding check-questions memory-fits ask
+    check-2-pointer h = sym (rw (le-leb _ _ one, ← q, not-true r h))
+
+    module _ (two : not r ≡ false) (k : Bool) (z : k ≡ delivery-in-range v) where
+      asked-on : check-questions v m p ≡ start-questions v m
+      unfolding check-questions memory-fits ask
+      asked-on = rw (le-leb _ _ one, ← q, not-false r two)
+
+      pub check-2-delivery : not k ≡ true → 2 ≡ check-questions v m p
+      unfolding memory-fits ask
+      check-2-delivery h = sym (asked-on ∙ delivery-answer v m (sym z ∙ not-true k h) ∙ rw (le-leb _ _ one) refl)
+
+      pub check-rest : not k ≡ false → (n : ℕ) → n ≡ start-questions no-delivery m → n ≡ check-questions v m p
+      check-rest h n e = e ∙ sym (same-start v no-delivery (sym z ∙ not-false k h) (unfold delivery-in-range in refl) m) ∙ sym asked-on
 
 -- REGISTERS, from equal parts
 pub registers-same : (a : ℕ) (b d : Dbr) (p q : Pointer) (ps : List Pointer) → b ≡ d → p ≡ q →

@@ -7,6 +7,7 @@ ghost use lib.Dec.{eqb};
 ghost use lib.ListN.{length};
 ghost use Rattle.model.specs.Registers.{no-delivery};
 ghost use Rattle.model.specs.Questions as Questions;
+ghost use Rattle.model.specs.Check as Check;
 ghost use Rattle.words.specs.View.{as-pointer};
 ghost use Rattle.state.specs.View.{as-pointers, as-machine, as-delivery, pr-of};
 ghost use Rattle.host.specs.Rings.{packed-rings, Joined, ones, eights};
@@ -110,6 +111,47 @@ pub fn start_answer(core: Core, prs: &[u16; 24], memory: &[u64]) -> u8
 {
     if 16777216 < memory.len() {
         return 1;
+    }
+    if !is_in_range(core.ipr) {
+        return 2;
+    }
+    if !prs_are_in_range(prs) {
+        return 2;
+    }
+    if 16777215 < core.dbr.address {
+        return 2;
+    }
+    if !are_at_least(core.ipr.ring, prs) {
+        return 3;
+    }
+    if 4096 < core.dbr.length {
+        return 4;
+    }
+    if memory.len() < core.dbr.address as usize + core.dbr.length as usize {
+        return 4;
+    }
+    0
+}
+
+// The same with 2 of the switch and its segments, and of a pointer handed in. It is not made of `start_answer`: that has one
+// caller, so that the compiler merges it into the loop of a run.
+pub fn check_answer(
+    delivery: Delivery,
+    p: Pointer,
+    core: Core,
+    prs: &[u16; 24],
+    memory: &[u64],
+) -> u8
+    ensures { λ n. ⌜ n ≡ Check.check-questions (as-delivery delivery) (as-machine core (now (prs .entry)) (now (memory .entry))) (as-pointer p) ⌝ }
+{
+    if 16777216 < memory.len() {
+        return 1;
+    }
+    if !is_in_range(p) {
+        return 2;
+    }
+    if !is_delivery(delivery) {
+        return 2;
     }
     if !is_in_range(core.ipr) {
         return 2;

@@ -1,8 +1,14 @@
-// The C library: a run and a step over a register record and a memory that the host lends, an image run whole, and a stored one converted.
+// The C library: a run and a step over a register record and a memory that the host lends, CALL's check over ones that are only read,
+// an image run whole, and a stored one converted.
 ghost use mathlib.Core.Path.{_≡_};
+ghost use Rattle.model.specs.Answers.{check-numbers};
+ghost use Rattle.model.specs.Check.{check};
 ghost use Rattle.model.specs.Bench as Bench;
 ghost use Rattle.model.specs.Convert.{convert-call};
+ghost use Rattle.host.specs.Record.{machine-of, delivery-of};
+ghost use Rattle.checks.specs.View.{as-numbers};
 ghost use Rattle.kuzhlemor.specs.Entry.{Run-says, Step-says};
+use checks::Check;
 use entry::Answer;
 use host::record::Registers;
 
@@ -23,6 +29,20 @@ pub extern "C" fn kuzhlemor_step(registers: &mut Registers, memory: &mut [u64]) 
     ensures { λ r. ⌜ Step-says (now (registers .entry)) (now (memory .entry)) r (now (registers .exit)) (now (memory .exit)) ⌝ }
 {
     entry::call(registers, memory, 1, true)
+}
+
+// May a CALL go there? As if one stood at IPR; record and memory are only read.
+#[no_mangle]
+pub extern "C" fn kuzhlemor_may_call(
+    registers: &Registers,
+    memory: &[u64],
+    ring: u8,
+    segment: u16,
+    word: u16,
+) -> Check
+    ensures { λ x. ⌜ as-numbers x ≡ check-numbers (check (delivery-of (now (registers .entry))) (machine-of (now (registers .entry)) (now (memory .entry))) (record { ring = ring; segment = segment; word = word })) ⌝ }
+{
+    checks::may_call(*registers, memory, ring, segment, word)
 }
 
 // An image and a text buffer, both as bytes, for the image's listing: the question's number negated, or the text's length.

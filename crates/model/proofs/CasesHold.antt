@@ -2,7 +2,7 @@
 use mathlib.Core.Path.{refl}
 use Rattle.model.specs.Run.{single-count}
 use Rattle.model.specs.Cases.{left-by, Holds, about-to-do, about-to, gated, through-pointer, returning, case-12-registers, case-12-words, case-12, pointers-up, through-pointers, case, thirteen, All-hold, Cases-hold}
-use Rattle.model.specs.Readings.{doing, through, with-descriptors, started, ended, with-start, stored-one, todays-one, loading, delivering, restoring, Readings}
+use Rattle.model.specs.Readings.{doing, through, with-descriptors, with-low-pr, started, ended, with-start, stored-one, todays-one, loading, delivering, restoring, Readings}
 use Rattle.model.proofs.Computing.{by-computation}
 
 pub thirteen-cases-hold : Cases-hold thirteen
@@ -46,7 +46,7 @@ thirteen-cases-hold = (
 )
 
 pub readings-hold : Readings
-unfolding by-computation single-count left-by Holds about-to-do about-to through-pointer case-12-registers pointers-up through-pointers doing through with-descriptors started ended with-start stored-one todays-one loading delivering restoring
+unfolding by-computation single-count left-by Holds about-to-do about-to through-pointer case-12-registers case-12-words case-12 pointers-up through-pointers doing through with-descriptors with-low-pr started ended with-start stored-one todays-one loading delivering restoring
 readings-hold =
     record {
       empty-file-is-42 = refl;
@@ -113,5 +113,12 @@ readings-hold =
       RCU-takes-IPR = refl;
       RCU-takes-PR0 = refl;
       RCU-takes-PR7 = refl;
+      check-at-a-gate-passes = refl;
+      check-within-the-segment-passes = refl;
+      check-behind-the-gates-is-27 = refl;
+      check-of-ring-8-is-2 = refl;
+      check-of-segment-4096-is-2 = refl;
+      check-with-a-low-PR-is-3 = refl;
+      check-of-a-ring-above-IPR's-is-30 = refl;
       offset-goes-round = refl;
     }

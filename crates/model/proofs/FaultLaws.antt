@@ -12,7 +12,7 @@ use Rattle.model.specs.Registers.{Dbr, Registers, Delivery, Machine, dbr
 use Rattle.model.specs.Opcodes.{Access, sets, reads, writes, updates, transfers, calls, returns, loads-dbr, ends-run, restores, Opcode}
 use Rattle.model.specs.Questions.{rings-at-least, dbr-fits, start-questions}
 use Rattle.model.specs.Program.{Program, fail, finish, halt, look, read, tick, write, Outcome, faults, completes, halts, use-answer, or-fault, execute}
-use Rattle.model.specs.Step.{chain, with-operand, load, store, update, transfer, call, return, if-dbr-fits, load-dbr, read-words, take-up, restore, perform, obey, step-program, step}
+use Rattle.model.specs.Step.{chain, with-operand, load, store, update, transfer, check-call, call, return, if-dbr-fits, load-dbr, read-words, take-up, restore, perform, obey, step-program, step}
 use Rattle.model.proofs.BranchLaws.{cond-holds}
 use Rattle.model.proofs.WordLaws.{Within}
 use Rattle.model.proofs.LeavesLaws.{descriptor-r1-within}
@@ -74,7 +74,7 @@ module _ {n : ℕ} {r : Registers} (h : Fit (λ _. Unit {0}) (λ _. Unit {0}) n 
   words-point (suc c) t f w k = (w, λ d v b. words-point c (moved-by 1 t) _ (moved-within 1 t w) (λ ws. k (v ∷ ws)))
 
   pub perform-points : (k : Access) (i : Instruction) (t : Pointer) → Formed r t → Points Within (perform n k i r t)
-  unfolding perform load store update transfer call return load-dbr restore Points
+  unfolding perform load store update transfer check-call call return load-dbr restore Points
   perform-points (sets f) i t g = tt
   perform-points (reads f) i t g = (g .within, λ d w b. tt)
   perform-points (writes f) i t g = g .within

@@ -15,6 +15,7 @@ pub mod NumberLaws
 pub mod DeliverLaws
 pub mod RunLaws
 pub mod DeliveredLaws
+pub mod CheckedLaws
 pub mod EndsLaws
 pub mod CountLaws
 pub mod ImageLaws

@@ -13,7 +13,7 @@ use Rattle.model.specs.Registers.{Dbr, Registers, Machine, dbr-in}
 use Rattle.model.specs.Opcodes.{Access, sets, reads, writes, updates, transfers, calls, returns, loads-dbr, ends-run, restores, Opcode}
 use Rattle.model.specs.Questions.{Question, ask, then-ask, rings-at-least, dbr-fits, segment-questions, word-questions, use-questions, fetch-questions, read-questions, part-questions, write-questions, return-questions, transfer-questions, call-questions}
 use Rattle.model.specs.Program.{Program, fail, finish, halt, look, read, tick, write, Outcome, faults, completes, halts, use-answer, or-fault, execute}
-use Rattle.model.specs.Step.{chain, with-operand, load, store, update, transfer, call, return, if-dbr-fits, load-dbr, read-words, take-up, restore, perform, obey, step-program, step}
+use Rattle.model.specs.Step.{chain, with-operand, load, store, update, transfer, check-call, call, return, if-dbr-fits, load-dbr, read-words, take-up, restore, perform, obey, step-program, step}
 use Rattle.model.proofs.BranchLaws.{cond-holds}
 
 -- THE QUESTIONS OF A SEGMENT have numbers up to 30
@@ -118,7 +118,7 @@ module _ (P : ℕ → Type 0) where
     taken-fails t r = dbr-fails (r .dbr) t _ (cond-holds Fails (rings-at-least (r .ipr .ring) (r .prs)) (λ _. tt) (λ _. at-52))
 
     pub perform-fails : (k : Access) (i : Instruction) (r : Registers) (t : Pointer) → Fails (perform n k i r t)
-    unfolding perform load store update transfer call return load-dbr restore Fails
+    unfolding perform load store update transfer check-call call return load-dbr restore Fails
     perform-fails (sets f) i r t = tt
     perform-fails (reads f) i r t = (read-up-to-30 t, λ d w. tt)
     perform-fails (writes f) i r t = write-up-to-30 t

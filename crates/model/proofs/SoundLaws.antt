@@ -14,7 +14,7 @@ use Rattle.model.specs.Registers.{Registers, Delivery, Machine, dbr-in, 
 use Rattle.model.specs.Opcodes.{Access, sets, reads, writes, updates, transfers, calls, returns, loads-dbr, ends-run, restores, Opcode}
 use Rattle.model.specs.Questions.{memory-fits, pointer-in-range, delivery-in-range, registers-in-range, rings-at-least, dbr-fits, start-questions, ask, new-ring, all}
 use Rattle.model.specs.Program.{Program}
-use Rattle.model.specs.Step.{first-address, next-address, chain, with-operand, stack-base, called, load, store, update, transfer, call, return, if-dbr-fits, load-dbr, read-words, registers-in, take-up, restore, perform, obey, step-program, step}
+use Rattle.model.specs.Step.{first-address, next-address, chain, with-operand, stack-base, called, load, store, update, transfer, check-call, call, return, if-dbr-fits, load-dbr, read-words, registers-in, take-up, restore, perform, obey, step-program, step}
 use Rattle.model.proofs.BranchLaws.{cond-holds, and-left, and-right, and-both}
 use Rattle.model.proofs.WordLaws.{field-within-width, Within, in-range-within, within-in-range, pointer-in-within}
 use Rattle.model.proofs.QuestionLaws.{ask-yes, transfer-keeps-ring, call-ring-at-most}
@@ -114,7 +114,7 @@ module _ {W C : ℕ → Type 0} (word : (v : ℕ) → v < 2 ^ 64 → W v) (eight
       }) (λ _. tt)) (λ _. tt)
 
   perform-leaves : (k : Access) → Keeps-fit W C k → (w : ℕ) (t : Pointer) → Formed r t → Leaves W (Fit W C n) (perform n k (instruction-in w) r t)
-  unfolding load store update transfer call return if-dbr-fits load-dbr restore perform Leaves Keeps-fit
+  unfolding load store update transfer check-call call return if-dbr-fits load-dbr restore perform Leaves Keeps-fit
   perform-leaves (sets f) s w t g = fit-advanced (s n w t r h g)
   perform-leaves (reads f) s w t g = λ d v b e q. fit-advanced (fit-with-a h _ (s (r .a) v e))
   perform-leaves (writes f) s w t g = (s n (instruction-in w) r h, fit-advanced h)

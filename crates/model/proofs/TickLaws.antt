@@ -12,7 +12,7 @@ use Rattle.model.specs.Registers.{Dbr, Registers, Delivery, Machine, dbr
 use Rattle.model.specs.Opcodes.{Access, sets, reads, writes, updates, transfers, calls, returns, loads-dbr, ends-run, restores, Opcode}
 use Rattle.model.specs.Questions.{rings-at-least, dbr-fits, start-questions}
 use Rattle.model.specs.Program.{Program, Outcome, faults, completes, halts, word-at, use-answer, unless-fault, ticks}
-use Rattle.model.specs.Step.{chain, with-operand, load, store, update, transfer, call, return, if-dbr-fits, load-dbr, read-words, take-up, restore, perform, obey, step-program, pointer-words}
+use Rattle.model.specs.Step.{chain, with-operand, load, store, update, transfer, check-call, call, return, if-dbr-fits, load-dbr, read-words, take-up, restore, perform, obey, step-program, pointer-words}
 use Rattle.model.specs.Deliver.{step-with}
 use Rattle.model.specs.Run.{unless-refused, traced, trace-on, trace-from, total-of, total, fault-count-on, fault-count-from, fault-count, single-count}
 use Rattle.model.specs.Counted.{Pointer-words-within, Fetch-fault-reads-none, Direct-reads-none, No-operand-reads-none, Fault-count-within, Single-count-of-run}
@@ -56,7 +56,7 @@ module _ (m : Machine) where
       dbr-without-ticks n (r .dbr) t _ (cond-holds (λ p. ticks m p ≡ 0) (rings-at-least (r .ipr .ring) (r .prs)) (λ _. refl) (λ _. refl))
 
   pub perform-without-ticks : (n : ℕ) (k : Access) (i : Instruction) (r : Registers) (t : Pointer) → ticks m (perform n k i r t) ≡ 0
-  unfolding perform load store update transfer call return load-dbr restore ticks
+  unfolding perform load store update transfer check-call call return load-dbr restore ticks
   perform-without-ticks n (sets f) i r t = refl
   perform-without-ticks n (reads f) i r t = unless-fault-none (use-answer m t _) _ refl
   perform-without-ticks n (writes f) i r t = refl

@@ -3,6 +3,7 @@ use Prim.Native.Nat.{ℕ}
 use Rattle.model.specs.Words.{Pointer}
 use Rattle.model.specs.Registers.{zero-pointer}
 use Rattle.model.specs.Run.{Reply, StepReply}
+use Rattle.model.specs.Check as Check
 
 -- an answer as numbers; what 01 leaves free is 0, the pointer's ring, segment and word as well
 pub record Numbers : Type 0 where
@@ -27,3 +28,15 @@ step-numbers (StepReply.refused n) = numbers 0 n 0 zero-pointer
 step-numbers StepReply.completed = numbers 1 0 1 zero-pointer
 step-numbers StepReply.halted = numbers 2 0 1 zero-pointer
 step-numbers (StepReply.fault n p) = numbers 3 n 0 p
+
+-- CALL's check as a call of its own (02, L5), with a kind of its own for a pass
+pub record CheckNumbers : Type 0 where
+  pub kind : ℕ
+  pub number : ℕ
+  pub ring : ℕ
+  pub pointer : Pointer
+
+unfoldable pub check-numbers : Check.Check → CheckNumbers
+check-numbers (Check.refused n) = record { kind = 0; number = n; ring = 0; pointer = zero-pointer }
+check-numbers (Check.fault n p) = record { kind = 3; number = n; ring = 0; pointer = p }
+check-numbers (Check.passes r) = record { kind = 4; number = 0; ring = r; pointer = zero-pointer }

@@ -10,6 +10,8 @@ pub mod Deliver
 pub mod Sound
 pub mod Run
 pub mod Delivered
+pub mod Check
+pub mod Checked
 pub mod Answers
 pub mod Ends
 pub mod Image

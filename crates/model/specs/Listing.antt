@@ -8,6 +8,7 @@ use Prim.Native.Char.{code}
 use lib.Dec.{ltb}
 use Rattle.model.specs.Registers.{Delivery, Machine}
 use Rattle.model.specs.Run.{Reply, refused, spent, halted, fault, run, Traced, trace, total}
+use Rattle.model.specs.Check as Check
 use Rattle.model.specs.Image.{Image, refused-image, loaded, image}
 
 unfoldable pub ascii : String → List ℕ
@@ -46,6 +47,12 @@ last-line (spent c) k = line (ascii "spent" ∷ decimal c ∷ decimal k ∷ [])
 last-line (halted c) k = line (ascii "halted" ∷ decimal c ∷ decimal k ∷ [])
 last-line (fault n c p) k =
     line (ascii "fault" ∷ decimal n ∷ decimal c ∷ decimal (p .ring) ∷ decimal (p .segment) ∷ decimal (p .word) ∷ decimal k ∷ [])
+
+-- what CALL's check says of a pointer (02, L5)
+unfoldable pub check-line : Check.Check → List ℕ
+check-line (Check.refused n) = refusal-line n
+check-line (Check.fault n p) = line (ascii "fault" ∷ decimal n ∷ decimal (p .ring) ∷ decimal (p .segment) ∷ decimal (p .word) ∷ [])
+check-line (Check.passes r) = line (ascii "passes" ∷ decimal r ∷ [])
 
 unfoldable pub listing : Delivery → (budget : ℕ) → Machine → List ℕ
 listing v b m = step-lines 0 (trace v b m) ++ last-line (run v b m .reply) (total v b m)

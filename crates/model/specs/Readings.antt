@@ -3,14 +3,16 @@ use mathlib.Core.Path.{_≡_}
 use mathlib.Core.List.{List, [], _∷_, _++_}
 use mathlib.Core.Option.{some}
 use Prim.Native.Nat.{ℕ, _+_}
+use Prim.Native.String.{String}
 use lib.ListN.{replicate, drop}
-use Rattle.model.specs.Registers.{Registers, Delivery, no-delivery, Machine}
-use Rattle.model.specs.Words.{pointer-word}
+use Rattle.model.specs.Registers.{Registers, Delivery, no-delivery, Machine, machine, with-pr}
+use Rattle.model.specs.Words.{Pointer, pointer-word}
 use Rattle.model.specs.Opcodes.{Opcode, LDA, STA, AOS, EAP, TRA, TZE, CALL, LDBR, HLT, RCU}
 use Rattle.model.specs.Deliver.{step-with}
-use Rattle.model.specs.Listing.{ascii}
+use Rattle.model.specs.Check.{check}
+use Rattle.model.specs.Listing.{ascii, check-line}
 use Rattle.model.specs.Notation.{pointer, segment, by-ipr, by-pr, indirect-by-pr, indirect-word, bytes, stored-ST, ST-record, WD-records, image-with, image-of}
-use Rattle.model.specs.Cases.{step-faults, ipr-becomes, pr-becomes, a-becomes, word-becomes, step-counts, run-lists, delivery-lists, image-prints, image-converts, left-by, Holds, about-to-do, about-to, through-pointer, case-12-registers, pointers-up, through-pointers}
+use Rattle.model.specs.Cases.{step-faults, ipr-becomes, pr-becomes, a-becomes, word-becomes, step-counts, run-lists, delivery-lists, image-prints, image-converts, left-by, Holds, about-to-do, about-to, through-pointer, case-12-registers, case-12, pointers-up, through-pointers}
 
 -- the instruction and one word in segment 1
 unfoldable pub doing : (instruction ring segment-1 word : ℕ) → Machine
@@ -24,6 +26,14 @@ through o l ws = about-to-do (indirect-by-pr o 1) 4 (pointer 4 1 0) (segment 3 l
 unfoldable pub with-descriptors : (address length : ℕ) → Registers
 with-descriptors a l =
     record { a = 0; dbr = record { address = a; length = l }; ipr = case-12-registers .ipr; prs = case-12-registers .prs }
+
+-- what the check says of a pointer
+abbrev check-says : Machine → Pointer → String → Type 0
+check-says m p s = check-line (check no-delivery m p) ≡ ascii s
+
+-- PR0 in ring 0
+unfoldable pub with-low-pr : Machine → Machine
+with-low-pr m = machine (with-pr 0 (pointer 0 0 0) (m .registers)) (m .memory)
 
 unfoldable pub started : List ℕ
 started = ascii "ME" ++ bytes 4 64 ++ ST-record case-12-registers no-delivery
@@ -138,5 +148,13 @@ pub record Readings : Type 0 where
   pub RCU-takes-IPR : Holds (ipr-becomes (restoring (segment 3 13 0 0 0 "R V" 0) 16 4) (pointer 4 0 1))
   pub RCU-takes-PR0 : Holds (pr-becomes (restoring (segment 3 13 0 0 0 "R V" 0) 16 4) 0 (pointer 4 0 9))
   pub RCU-takes-PR7 : Holds (pr-becomes (restoring (segment 3 13 0 0 0 "R V" 0) 16 4) 7 (pointer 5 2 3))
+  -- CALL'S CHECK (02, L5) of any pointer: 2 of it comes before 3, its ring is raised, and 27 goes by IPR's segment
+  pub check-at-a-gate-passes : check-says case-12 (pointer 0 5 0) "passes 1\n"
+  pub check-within-the-segment-passes : check-says case-12 (pointer 0 4 7) "passes 4\n"
+  pub check-behind-the-gates-is-27 : check-says case-12 (pointer 0 5 1) "fault 27 4 5 1\n"
+  pub check-of-ring-8-is-2 : check-says case-12 (pointer 8 5 0) "refused 2\n"
+  pub check-of-segment-4096-is-2 : check-says (with-low-pr case-12) (pointer 0 4096 0) "refused 2\n"
+  pub check-with-a-low-PR-is-3 : check-says (with-low-pr case-12) (pointer 0 5 0) "refused 3\n"
+  pub check-of-a-ring-above-IPR's-is-30 : check-says (about-to CALL 4 4 1 (segment 3 4 5 6 6 "E V" 2)) (pointer 5 1 1) "fault 30 5 1 1\n"
   -- WORD NUMBERS go round from 65,535 to 0
   pub offset-goes-round : Holds (pr-becomes (about-to-do (by-pr EAP 1 + 3) 4 (pointer 4 1 65535) 0 []) 5 (pointer 4 1 2))

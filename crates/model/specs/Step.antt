@@ -54,8 +54,12 @@ update f r t = read (read-questions t) t (λ d w. write (write-questions t) t (f
 unfoldable pub transfer : (taken : Bool) → Registers → Pointer → Program
 transfer taken r t = cond taken (look (transfer-questions (r .ipr) t) t (λ d. finish (with-ipr t r))) (finish (advanced r))
 
+-- CALL is a check, which gives the new ring or the fault, and the move, which takes a passed check's ring (02, L5)
+unfoldable pub check-call : (ipr : Pointer) → Pointer → ((ring : ℕ) → Program) → Program
+check-call ipr t f = look (call-questions ipr t) t (λ d. f (new-ring t d))
+
 unfoldable pub call : Registers → Pointer → Program
-call r t = look (call-questions (r .ipr) t) t (λ d. finish (called (new-ring t d) t r))
+call r t = check-call (r .ipr) t (λ n. finish (called n t r))
 
 unfoldable pub return : Registers → Pointer → Program
 return r t = look (return-questions t) t (λ d. finish (returned t r))

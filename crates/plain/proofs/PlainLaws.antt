@@ -4,49 +4,38 @@ use mathlib.Core.Bool.{Bool, true, false, cond}
 use mathlib.Core.List.{List, [], _∷_}
 use Prim.Native.Nat.{ℕ, zero, suc, _+_, _*_, _^_, _≤_, _<_}
 use native.Mathlib.Omega.{arith}
-use lib.Dec.{leb}
-use lib.ListN.{length, take}
-use borrow.Author.Tests.{leb-true}
+use lib.ListN.{take}
 use Rattle.model.specs.Registers.{no-delivery, Machine}
 use Rattle.model.specs.Answers.{Numbers, reply-numbers}
-use Rattle.model.specs.Questions.{all, pointer-in-range, registers-in-range, dbr-fits, start-questions}
+use Rattle.model.specs.Questions.{start-questions}
 use Rattle.model.specs.Program.{Outcome, faults, completes, halts}
 use Rattle.model.specs.Step.{pointer-words}
 use Rattle.model.specs.Run as Run
 use Rattle.model.specs.Run.{ran, total-of}
-use Rattle.model.proofs.BranchLaws.{and-left, and-right}
-use Rattle.model.proofs.QuestionLaws.{ask-yes}
 use Rattle.model.proofs.TickLaws.{pointer-words-within}
-use Rattle.words.specs.View.{as-pointer}
-use Rattle.state.specs.View.{as-pointers, as-machine}
+use Rattle.state.specs.View.{as-machine}
 use Rattle.state.specs.declared.Core.{Core}
+use Rattle.state.proofs.PassingLaws.{ipr-passing, address-passing, length-passing}
 use Rattle.dispatch.specs.Plain.{plain-step}
 use Rattle.host.specs.Record.{In-record}
-use Rattle.run.specs.Run.{run-by, trace-by, last-by, as-reply, noted-steps, Ran-as, Traced, Counted}
+use Rattle.run.specs.Run.{run-by, trace-by, last-by, noted-steps, Ran-as, Traced, Counted}
 use Rattle.run.specs.declared.Ran.{Ran}
 use Rattle.run.specs.declared.Reply.the-variants as Reply
-use Rattle.run.proofs.RunLaws.{ipr-passing}
 use Rattle.answers.specs.Answer.{Answers-with}
 use Rattle.answers.specs.declared.Answered.{Answered}
 use Rattle.answers.proofs.AnswerLaws.{count-completed}
-use Rattle.plain.specs.Plain.{Refuses, Runs-plainly, Plain-as}
+use Rattle.plain.specs.Plain.{Plain-as}
 
 -- WHERE 1 TO 4 PASS, the core fits the host's record
 pub passing-in-record : (c : Core) (prs m : List ℕ) → start-questions no-delivery (as-machine c prs m) ≡ 0 → In-record c
-unfolding start-questions registers-in-range dbr-fits
 passing-in-record c prs m e =
-    let h = ipr-passing c prs m e in
-    let a = ask-yes _ _ _ e in
-    let b = ask-yes _ _ _ (a .1) in
-    let d = ask-yes _ _ _ (b .1) in
-    let address : c .dbr .address ≤ 16777215 = leb-true _ _ (and-left (leb (c .dbr .address) 16777215) _ (and-right (all pointer-in-range (as-pointers prs)) _ (and-right (pointer-in-range (as-pointer (c .ipr))) _ (b .0)))) in
-    let size : c .dbr .length ≤ 4096 = leb-true _ _ (and-left (leb (c .dbr .length) 4096) (leb (c .dbr .address + c .dbr .length) (length m)) (ask-yes _ _ _ (d .1) .0)) in
+    let h = ipr-passing _ c prs m e in
     record {
       ring-fits = let z = h .ring-within in omega arith;
       segment-fits = let z = h .segment-within in omega arith;
       word-fits = h .word-within;
-      address-fits = omega arith;
-      length-fits = omega arith;
+      address-fits = let z = address-passing _ c prs m e in omega arith;
+      length-fits = let z = length-passing _ c prs m e in omega arith;
     }
 
 -- POINTER WORDS as a single step or as a run

@@ -10,7 +10,7 @@ use Rattle.model.specs.Registers.{Dbr, Registers, Machine, dbr-in}
 use Rattle.model.specs.Opcodes.{Access, sets, reads, writes, updates, transfers, calls, returns, loads-dbr, ends-run, restores, decoded, LDA, STA, ADA, SBA, ANA, ORA, XRA, CNT, AOS, EAP, SPP, TRA, TZE, TMI, CALL, RETURN, LDBR, RCU}
 use Rattle.model.specs.Questions.{ask, rings-at-least, dbr-fits, may-execute, fetch-questions}
 use Rattle.model.specs.Program.{Outcome, Program, fail, execute, word-at, descriptor-of, or-fault}
-use Rattle.model.specs.Step.{first-address, chain, load, store, update, transfer, call, return, if-dbr-fits, load-dbr, read-words, take-up, restore, perform, obey, step-program, step}
+use Rattle.model.specs.Step.{first-address, chain, load, store, update, transfer, check-call, call, return, if-dbr-fits, load-dbr, read-words, take-up, restore, perform, obey, step-program, step}
 use Rattle.model.proofs.TableLaws.{Each}
 use Rattle.model.proofs.Computing.{by-computation}
 use Rattle.model.proofs.BranchLaws.{cond-holds}
@@ -64,7 +64,7 @@ module _ (m : Machine) (w : ℕ) where
 
   perform-never : (k : Access) (t : Pointer) → ends k ≡ false →
       View.is-halt (execute m (perform (length (m .memory)) k (instruction-in w) (m .registers) t)) ≡ false
-  unfolding ends load store update transfer call return load-dbr restore perform execute View.is-halt
+  unfolding ends load store update transfer check-call call return load-dbr restore perform execute View.is-halt
   perform-never (sets f) t e = refl
   perform-never (reads f) t e = or-fault-never _ t _ refl
   perform-never (writes f) t e = or-fault-never _ t _ refl

@@ -11,7 +11,7 @@ use Rattle.model.specs.Registers.{Registers, Machine, machine, dbr-in, with-a, 
 use Rattle.model.specs.Opcodes.{reads, writes, updates, transfers, calls, returns, loads-dbr, restores}
 use Rattle.model.specs.Questions.{rings-at-least, dbr-fits, may-read, read-questions, part-questions, write-questions, new-ring}
 use Rattle.model.specs.Program.{Program, fail, execute, word-at, absolute-address, use-answer, descriptor-of}
-use Rattle.model.specs.Step.{stack-base, called, returned, load, store, update, transfer, call, return, if-dbr-fits, load-dbr, registers-in, take-up, restore, perform}
+use Rattle.model.specs.Step.{stack-base, called, returned, load, store, update, transfer, check-call, call, return, if-dbr-fits, load-dbr, registers-in, take-up, restore, perform}
 use Rattle.model.proofs.BranchLaws.{cond-rel}
 use Rattle.model.proofs.QuestionLaws.{use-passes-segment, word-within-segment}
 use Rattle.model.proofs.ProgramLaws.{use-passes, answer-passes}
@@ -99,14 +99,14 @@ module _ (m : Machine) (i : Instruction) (t : Pointer) where
       View.outcome (execute m (perform (length (m .memory)) (reads f) i (m .registers) t))
       ≡ Step03.or-fault (Step03.pointer-refusal (View.machine m) (View.place t)) (View.place t)
       (Step03.on-with (Step03.with-a (f (m .registers .a) (word-at m t)) (View.regs (m .registers))) (m .memory))
-  unfolding registers-opened load store update transfer call return load-dbr perform execute View.outcome
+  unfolding registers-opened load store update transfer check-call call return load-dbr perform execute View.outcome
   reads-view f = rw (← (read-answer m t)) (or-fault-view _ t _)
 
   pub writes-view : (f : Instruction → Registers → ℕ) →
       View.outcome (execute m (perform (length (m .memory)) (writes f) i (m .registers) t))
       ≡ Step03.or-fault (Step03.write-refusal (View.machine m) (View.place t)) (View.place t)
       (Step03.on-with (View.regs (m .registers)) (set (m .memory) (absolute-address m t) (f i (m .registers))))
-  unfolding registers-opened load store update transfer call return load-dbr perform execute View.outcome
+  unfolding registers-opened load store update transfer check-call call return load-dbr perform execute View.outcome
   writes-view f = rw (← (write-answer m t)) (or-fault-view _ t _)
 
   pub transfers-view : (f : ℕ → Bool) →
@@ -115,7 +115,7 @@ module _ (m : Machine) (i : Instruction) (t : Pointer) where
       (Step03.or-fault (Step03.transfer-refusal (View.machine m) (View.place t)) (View.place t)
       (Step03.went (Step03.machine (Step03.with-ipr (View.place t) (View.regs (m .registers))) (m .memory))))
       (Step03.on-with (View.regs (m .registers)) (m .memory))
-  unfolding registers-opened load store update transfer call return load-dbr perform execute View.outcome
+  unfolding registers-opened load store update transfer check-call call return load-dbr perform execute View.outcome
   transfers-view f =
       cond-rel (λ p x. View.outcome (execute m p) ≡ x) {b = f (m .registers .a)} refl (λ _. rw (← (transfer-answer m t)) (or-fault-view _ t _)) (λ _. refl)
 
@@ -123,7 +123,7 @@ module _ (m : Machine) (i : Instruction) (t : Pointer) where
       View.outcome (execute m (perform (length (m .memory)) calls i (m .registers) t))
       ≡ Step03.or-fault (Step03.call-refusal (View.machine m) (View.place t)) (View.place t)
       (Step03.went (Step03.machine (Step03.called (Step03.new-ring (View.machine m) (View.place t)) (View.place t) (View.regs (m .registers))) (m .memory)))
-  unfolding words-opened machine Step03.machine load store update transfer call return load-dbr perform execute View.outcome new-ring Step03.new-ring
+  unfolding words-opened machine Step03.machine load store update transfer check-call call return load-dbr perform execute View.outcome new-ring Step03.new-ring
   calls-view =
       rw (← (call-answer m t), ← (called-view (new-ring t (descriptor-of m (t .segment))) t (m .registers))) (or-fault-view _ t _)
 
@@ -131,14 +131,14 @@ module _ (m : Machine) (i : Instruction) (t : Pointer) where
       View.outcome (execute m (perform (length (m .memory)) returns i (m .registers) t))
       ≡ Step03.or-fault (Step03.return-refusal (View.machine m) (View.place t)) (View.place t)
       (Step03.went (Step03.machine (Step03.returned (View.place t) (View.regs (m .registers))) (m .memory)))
-  unfolding machine Step03.machine load store update transfer call return load-dbr perform execute View.outcome
+  unfolding machine Step03.machine load store update transfer check-call call return load-dbr perform execute View.outcome
   returns-view = rw (← (return-answer m t), ← (returned-view t (m .registers))) (or-fault-view _ t _)
 
   pub updates-view : (f : ℕ → ℕ) →
       View.outcome (execute m (perform (length (m .memory)) (updates f) i (m .registers) t))
       ≡ Step03.or-fault (Step03.change-refusal (View.machine m) (View.place t)) (View.place t)
       (Step03.on-with (View.regs (m .registers)) (set (m .memory) (absolute-address m t) (f (word-at m t))))
-  unfolding registers-opened load store update transfer call return load-dbr perform execute View.outcome Step03.change-refusal Step03.pointer-refusal Step03.write-refusal Step03.may-write
+  unfolding registers-opened load store update transfer check-call call return load-dbr perform execute View.outcome Step03.change-refusal Step03.pointer-refusal Step03.write-refusal Step03.may-write
   updates-view f =
       let u = Machine03.use-refusal (View.regs (m .registers)) (m .memory) (View.place t) in
       let d = descriptor-of m (t .segment) in

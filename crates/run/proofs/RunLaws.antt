@@ -1,25 +1,19 @@
--- A run: what 1 to 4 give, one step on the way, and one law for each way out of the loops. Assumes nothing.
+-- A run: one step on the way, and one law for each way out of the loops. Assumes nothing.
 use mathlib.Core.Path.{_≡_, refl, sym, _∙_, ap, subst}
-use mathlib.Core.Bool.{true}
 use mathlib.Core.List.{List, [], _∷_, _++_, append-nil, append-assoc}
 use mathlib.Core.Logic.{_⊎_, inl, inr}
 use Prim.Native.Nat.{ℕ, suc, _+_, _-_, _*_, _^_, _≤_, _<_}
 use native.Mathlib.Nat.{zero-add, add-zero, add-assoc}
 use native.Mathlib.Numerals.{add-one}
 use native.Mathlib.Omega.{arith}
-use lib.Dec.{leb}
 use lib.ListN.{length, take}
-use borrow.Author.Tests.{leb-true}
 use Rattle.model.specs.Registers.{Delivery, no-delivery, Machine}
-use Rattle.model.specs.Questions.{all, pointer-in-range, registers-in-range, dbr-fits, start-questions}
+use Rattle.model.specs.Questions.{start-questions}
 use Rattle.model.specs.Words as Words
 use Rattle.model.specs.Step.{pointer-words}
 use Rattle.model.specs.Run as Run
 use Rattle.model.specs.Run.{ran, total-of}
 use Rattle.model.specs.Program.{Outcome, faults, completes, halts}
-use Rattle.model.proofs.BranchLaws.{and-left, and-right}
-use Rattle.model.proofs.WordLaws.{in-range-within}
-use Rattle.model.proofs.QuestionLaws.{ask-yes}
 use Rattle.model.proofs.DeliverLaws.{step-keeps-passing}
 use Rattle.model.proofs.DeliveredLaws.{completes-as-plain}
 use Rattle.words.specs.View.{as-pointer, Pointer-within}
@@ -29,40 +23,13 @@ use Rattle.state.specs.declared.Core.{Core}
 use Rattle.state.specs.declared.After.{After}
 use Rattle.state.specs.declared.End.{End}
 use Rattle.state.specs.declared.End.the-variants.{Completed, Halted, Faulted}
-use Rattle.state.specs.View.{as-pointers, as-machine, Ready, ended, Does}
+use Rattle.state.specs.View.{as-pointers, as-machine, ended, Does}
 use Rattle.dispatch.specs.Plain.{plain-step}
 use Rattle.dispatch.specs.Dispatch.{dispatched-in}
 use Rattle.dispatch.proofs.PlainLaws.{plain-completes, plain-halts, stop-within}
 use Rattle.processor.specs.Step.{Ready-to-perform}
 use Rattle.run.specs.Run.{run-by, trace-by, last-by, as-reply, Reply-within, completed, Ran-as, noted-steps, Noted, Traced, Counted, On-the-way, At-the-end}
 use Rattle.run.specs.declared.Ran.{Ran}
-
--- WHAT 1 TO 4 GIVE
-module _ (c : Core) (prs m : List ℕ) (e : start-questions no-delivery (as-machine c prs m) ≡ 0) where
-  in-range : registers-in-range no-delivery (as-machine c prs m .registers) ≡ true
-  unfolding start-questions
-  in-range = ask-yes _ _ _ (ask-yes _ _ _ e .1) .0
-
-  passing-ipr : pointer-in-range (as-pointer (c .ipr)) ≡ true
-  unfolding registers-in-range
-  passing-ipr = and-left (pointer-in-range (as-pointer (c .ipr))) _ in-range
-
-  pub prs-in-range : all pointer-in-range (as-pointers prs) ≡ true
-  unfolding registers-in-range
-  prs-in-range = and-left (all pointer-in-range (as-pointers prs)) _ (and-right (pointer-in-range (as-pointer (c .ipr))) _ in-range)
-
-  passing-dbr : c .dbr .address + c .dbr .length ≤ length m
-  unfolding start-questions dbr-fits
-  passing-dbr =
-      leb-true _ _ (and-right (leb (c .dbr .length) 4096) _ (ask-yes _ _ _ (ask-yes _ _ _ (ask-yes _ _ _ (ask-yes _ _ _ e .1) .1) .1) .0))
-
-  pub ready-passing : Ready c m
-  ready-passing =
-      let h = in-range-within _ passing-ipr in record { dbr-fits = passing-dbr; ring-within = h .ring-within; segment-within = h .segment-within }
-
-  pub ipr-passing : Pointer-within (c .ipr)
-  ipr-passing =
-      let h = in-range-within _ passing-ipr in record { ring-within = h .ring-within; segment-within = h .segment-within; word-within = h .word-within }
 
 -- AN INSTRUCTION PERFORMED is the step
 pub performed-ends : (c : Core) (d : Descriptor) (prs m prs-now m-now : List ℕ) (w : ℕ) (t : Pointer) (i : ℕ) (x : After) → Ready-to-perform (as-machine c prs m) w t i →

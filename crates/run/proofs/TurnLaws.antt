@@ -17,13 +17,14 @@ use Rattle.segments.specs.Translation.{Code-right}
 use Rattle.state.specs.declared.After.{After}
 use Rattle.state.specs.declared.End.the-variants.{Completed, Halted, Faulted}
 use Rattle.state.specs.View.{as-pointers, as-machine, Ready, ended, Does}
+use Rattle.state.proofs.PassingLaws.{prs-in-range, ready-passing, ipr-passing}
 use Rattle.dispatch.specs.Plain.{plain-program, plain-step}
 use Rattle.dispatch.specs.Dispatch.{dispatched-in}
 use Rattle.processor.specs.Step.{Ready-to-perform, quickly-formed}
 use Rattle.processor.specs.declared.Prepared.{Prepared}
 use Rattle.processor.specs.declared.Prepared.the-variants as Prepared
 use Rattle.run.specs.Run.{Noted, On-the-way, At-the-end, Went-as, next-formed}
-use Rattle.run.proofs.RunLaws.{prs-in-range, ready-passing, ipr-passing, performed-ends, passing-after, way-starts, way-faults, way-halts, way-goes-on, fault-within}
+use Rattle.run.proofs.RunLaws.{performed-ends, passing-after, way-starts, way-faults, way-halts, way-goes-on, fault-within}
 
 -- before a turn: the way so far, a right code descriptor, and while the loop goes on an instruction that is formed
 pub record Turning (b s r : ℕ) (m : Machine) (t₀ : List ℕ) (x : After) (prs memory trace : List ℕ) (w : ℕ) (t : Pointer) (p count : ℕ) (going : Bool) : Type 0 where
@@ -81,7 +82,7 @@ module _ (b s r : ℕ) (m : Machine) (t₀ : List ℕ) (x : After) (prs memory t
     turn-pointers = let h = turn-part in let k = inv .read-within in omega arith
 
     pub turn-needs : Ready (x .core) memory × (all pointer-in-range (as-pointers prs) ≡ true) × Pointer-within t
-    turn-needs = (ready-passing (x .core) prs memory (inv .way .passes), prs-in-range (x .core) prs memory (inv .way .passes), inv .ready e .1 .within)
+    turn-needs = (ready-passing _ (x .core) prs memory (inv .way .passes), prs-in-range _ (x .core) prs memory (inv .way .passes), inv .ready e .1 .within)
 
     module _ (y : After) (prs-now memory-now : List ℕ)
         (h : Does (x .core) (x .code) (as-pointers prs) memory (dispatched-in (as-machine (x .core) prs memory) w (as-pointer t)) y (as-pointers prs-now) memory-now) where
@@ -92,7 +93,7 @@ module _ (b s r : ℕ) (m : Machine) (t₀ : List ℕ) (x : After) (prs memory t
       turn-passes = passing-after _ (y .end) _ stepped (inv .way .passes)
 
       pub turn-ipr : Pointer-within (y .core .ipr)
-      turn-ipr = ipr-passing (y .core) prs-now memory-now turn-passes
+      turn-ipr = ipr-passing _ (y .core) prs-now memory-now turn-passes
 
       -- a fault
       pub turn-faults : (n : ℕ) (p : Pointer) → y .end ≡ Faulted n p →

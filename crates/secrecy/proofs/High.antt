@@ -11,7 +11,7 @@ use Rattle.model.specs.Registers.{Registers, with-a, with-ipr, with-prs, with-p
 use Rattle.model.specs.Opcodes.{Access, sets, reads, writes, updates, transfers, calls, returns, loads-dbr, ends-run, restores, Opcode, LDA, STA, ADA, SBA, ANA, ORA, XRA, CNT, AOS, LDI, EAP, SPP, TRA, TZE, TMI, CALL, RETURN, LDBR, HLT, RCU}
 use Rattle.model.specs.Questions.{fetch-questions, read-questions, write-questions}
 use Rattle.model.specs.Program.{Program}
-use Rattle.model.specs.Step.{first-address, next-address, chain, with-operand, called, returned, load, store, update, transfer, call, return, load-dbr, perform, obey, step-program}
+use Rattle.model.specs.Step.{first-address, next-address, chain, with-operand, called, returned, load, store, update, transfer, check-call, call, return, load-dbr, perform, obey, step-program}
 use Rattle.model.proofs.BranchLaws.{cond-holds, or-left, or-right, not-or-false}
 use Rattle.model.proofs.QuestionLaws.{fetch-bracket, read-bracket, write-bracket}
 use Rattle.model.proofs.TableLaws.{Each, If-there, decoded-has}
@@ -88,7 +88,7 @@ module _ (n : ℕ) where
         cond-holds (High n (r .dbr)) i (λ _. (read-may-read t h, λ d w e. high-chain f g l _ _ (omega arith))) (λ _. g t h)
 
     pub high-perform : (size : ℕ) (k : Access) → Keeps-dbr k → (i : Instruction) (t : Pointer) → n ≤ t .ring → High n (r .dbr) (perform size k i r t)
-    unfolding load store update transfer call return load-dbr perform High Keeps-dbr advanced with-a with-ipr with-prs with-pr called returned
+    unfolding load store update transfer check-call call return load-dbr perform High Keeps-dbr advanced with-a with-ipr with-prs with-pr called returned
     high-perform size (sets f) u i t h = u i t r
     high-perform size (reads f) u i t h = (read-may-read t h, λ d w e. refl)
     high-perform size (writes f) u i t h = (write-may-write t h, refl)

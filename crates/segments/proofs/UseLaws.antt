@@ -83,7 +83,7 @@ module _ (b : Dbr) (m : List ℕ) (n k i : ℕ) (q : Question) (y : Translated) 
 pub ruleset accesses = (segment-fits, word-inside, access-refused, access-passed, write-refused, write-stored)
 
 -- THE NODES OF A PROGRAM. A use asks by DBR and memory alone
-use-answer-by : (m : Machine) (t : Pointer) (q : Question) → use-answer m t q ≡ use-by (m .registers .dbr) (m .memory) t q
+pub use-answer-by : (m : Machine) (t : Pointer) (q : Question) → use-answer m t q ≡ use-by (m .registers .dbr) (m .memory) t q
 unfolding use-answer descriptor-of use-by use-at descriptor-word
 use-answer-by m t q = refl
 

@@ -3,25 +3,21 @@ use mathlib.Core.Path.{_≡_, refl, sym, _∙_, ap, subst}
 use mathlib.Core.Bool.{Bool, true, false}
 use mathlib.Core.List.{List}
 use Prim.Native.Nat.{ℕ, zero, suc}
-use lib.Dec.{leb}
 use lib.ListN.{length}
-use borrow.Author.Tests.{leb-true}
 use Rattle.model.specs.Words as Words
 use Rattle.model.specs.Registers.{Delivery, Machine, machine, with-ipr}
-use Rattle.model.specs.Questions.{all, pointer-in-range, registers-in-range, dbr-fits, start-questions}
+use Rattle.model.specs.Questions.{start-questions}
 use Rattle.model.specs.Program.{faults, completes, execute}
 use Rattle.model.specs.Step as Step
 use Rattle.model.specs.Step.{step}
 use Rattle.model.specs.Deliver.{delivers, saved, deliver, step-with}
-use Rattle.model.proofs.BranchLaws.{and-left, and-right}
-use Rattle.model.proofs.WordLaws.{in-range-within}
-use Rattle.model.proofs.QuestionLaws.{ask-yes}
 use Rattle.model.proofs.FaultLaws.{fault-pointer-within}
 use Rattle.model.proofs.DeliveredLaws.{completes-as-plain, unsaved-as-plain}
 use Rattle.words.specs.View.{as-pointer, Pointer-within}
 use Rattle.words.specs.declared.pointer.Pointer.{Pointer}
-use Rattle.state.specs.View.{as-pointers, as-machine, Becomes, Ready, ended}
+use Rattle.state.specs.View.{as-pointers, as-machine, Becomes, ended}
 use Rattle.state.specs.declared.Core.{Core}
+use Rattle.state.proofs.PassingLaws.{ipr-passing, prs-in-range, address-passing, length-passing, ready-passing}
 use Rattle.state.specs.declared.End.the-variants.{Completed, Halted, Faulted}
 use Rattle.dispatch.specs.Plain.{stopped}
 use Rattle.restore.specs.declared.Settled.{Settled}
@@ -32,38 +28,13 @@ use Rattle.settle.specs.Settles.{Settles}
 module _ (dv : Delivery) where
   -- WHAT 1 TO 4 GIVE
   module _ (c : Core) (prs m : List ℕ) (e : start-questions dv (as-machine c prs m) ≡ 0) where
-    in-range : registers-in-range dv (as-machine c prs m .registers) ≡ true
-    unfolding start-questions
-    in-range = ask-yes _ _ _ (ask-yes _ _ _ e .1) .0
-
-    fitting-dbr : dbr-fits (length m) (as-machine c prs m .registers .dbr) ≡ true
-    unfolding start-questions
-    fitting-dbr = ask-yes _ _ _ (ask-yes _ _ _ (ask-yes _ _ _ (ask-yes _ _ _ e .1) .1) .1) .0
-
-    passing-ipr : pointer-in-range (as-pointer (c .ipr)) ≡ true
-    unfolding registers-in-range
-    passing-ipr = and-left (pointer-in-range (as-pointer (c .ipr))) _ in-range
-
-    pub ready-passing : Ready c m
-    unfolding dbr-fits
-    ready-passing =
-        let h = in-range-within _ passing-ipr in
-        record {
-          dbr-fits = leb-true _ _ (and-right (leb (c .dbr .length) 4096) _ fitting-dbr);
-          ring-within = h .ring-within;
-          segment-within = h .segment-within;
-        }
-
     pub savable-passing : Savable c prs
-    unfolding registers-in-range dbr-fits
     savable-passing =
-        let h = in-range-within _ passing-ipr in
-        let rest = and-right (pointer-in-range (as-pointer (c .ipr))) _ in-range in
         record {
-          ipr-within = record { ring-within = h .ring-within; segment-within = h .segment-within; word-within = h .word-within };
-          address-within = leb-true _ _ (and-left (leb (c .dbr .address) 16777215) _ (and-right (all pointer-in-range (as-pointers prs)) _ rest));
-          length-within = leb-true _ _ (and-left (leb (c .dbr .length) 4096) _ fitting-dbr);
-          prs-in-range = and-left (all pointer-in-range (as-pointers prs)) _ rest;
+          ipr-within = ipr-passing _ c prs m e;
+          address-within = address-passing _ c prs m e;
+          length-within = length-passing _ c prs m e;
+          prs-in-range = prs-in-range _ c prs m e;
         }
 
   -- A STEP THAT FAULTS: what delivering answered

@@ -1,3 +1,2 @@
 -- Laws of this crate. Assumes nothing.
-pub mod ReadLaws
-pub mod PrintLaws
+mod PrintLaws

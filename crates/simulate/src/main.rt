@@ -1,54 +1,14 @@
 // The laptop's program: an image on standard input, its listing on standard output.
 ghost use mathlib.Core.Path.{_≡_};
-ghost use lib.ListN.{replicate};
 ghost use Rattle.model.specs.Questions.{start-questions};
 ghost use Rattle.state.specs.View.{as-machine, as-delivery};
-ghost use Rattle.simulate.specs.Read.{Ready-within};
 use chunks::Line;
 use host::record::Registers;
 use image::load::LoadOutcome;
-use image::load::Loaded;
 use libc::STDOUT_FILENO;
 use listing::Listed;
 use state::Core;
 use state::Delivery;
-
-// Reads and loads until an image is whole or refused; `More` means that the input can't be read.
-fn read_image(store: &mut [u64]) -> Loaded
-    requires { ⌜ now store ≡ replicate 8320 0 ⌝ }
-    ensures { λ x. ⌜ Ready-within x (now (store .exit)) ⌝ }
-{
-    let mut buffer = io::large_buffer();
-    let mut x = Loaded {
-        loading: loading::nothing_loaded(false),
-        outcome: LoadOutcome::More(0),
-    };
-    let mut kept = 0;
-    // A proved loop has to end, and nothing says that an input does: no input has so many pieces.
-    let mut turns = u64::MAX;
-    while turns > 0 {
-        let piece = streams::read_piece(&mut buffer, kept);
-        if piece.has_failed {
-            os::fail(b"standard input");
-            return x;
-        }
-        x = image::piece::load_piece(x.loading, store, &mut buffer, piece.size, piece.has_ended);
-        let outcome = x.outcome;
-        match outcome {
-            LoadOutcome::Refused(_n) => {
-                return x;
-            }
-            LoadOutcome::More(n) => {
-                kept = n;
-            }
-            LoadOutcome::Ready(_budget) => {
-                return x;
-            }
-        }
-        turns -= 1;
-    }
-    x
-}
 
 // Prints a run's listing as its steps complete, and stops where nobody reads it any more.
 fn print_listing(delivery: Delivery, core: Core, start: [u16; 24], memory: &mut [u64], budget: u32)
@@ -101,7 +61,7 @@ fn run_image(registers: Registers, memory: &mut [u64], budget: u32) {
 
 fn main() {
     let mut store = loading::empty_store();
-    let x = read_image(&mut store);
+    let x = reading::read_image(&mut store);
     let loading = x.loading;
     let outcome = x.outcome;
     match outcome {

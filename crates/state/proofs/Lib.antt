@@ -2,3 +2,4 @@
 pub mod StateLaws
 pub mod PrLaws
 pub mod DoesLaws
+pub mod PassingLaws

@@ -1,12 +1,12 @@
 -- `call` meets its contract. Assumes nothing.
 use mathlib.Core.Path.{refl}
-use borrow.Author.Needs.{needs}
 use Rattle.control.proofs.MoveLaws.{calls, call-refused, call-enters}
+use borrow.Author.Needs.{needs}
 use Rattle.control.proofs.call.Statement.{statement}
 use Rattle.control.proofs.call.Tie as tie
 
-look-requires : tie.Need-look-requires
-look-requires c κs = search (needs, calls)
+check-requires : tie.Need-check-requires
+check-requires c κs = search (needs, calls)
 
 enum-known-n : tie.Need-enum-known-n
 enum-known-n c = search (needs, calls)
@@ -17,11 +17,8 @@ faulted-requires c κs = search (needs, calls)
 enum-known-d : tie.Need-enum-known-d
 enum-known-d c = search (needs, calls)
 
-new-ring-requires : tie.Need-new-ring-requires
-new-ring-requires c κs = search (needs, calls)
-
 stack-base-requires : tie.Need-stack-base-requires
-stack-base-requires c κs = search (needs, calls)
+stack-base-requires c κs = (rw (c .before .before .d .given .1) at (c .before .before .before .before .check .ensures)) .2
 
 set-pr-requires : tie.Need-set-pr-requires
 set-pr-requires c κs = search (needs, calls)
@@ -30,20 +27,19 @@ entered-requires : tie.Need-entered-requires
 entered-requires c κs = search (needs, calls)
 
 returns : tie.Need-returns
-returns c = call-refused _ _ _ _ _ _ (c .before .before .before .before .look .ensures) _ _ _ (c .before .before .n .given .1) (c .faulted .ensures) refl
+returns c = call-refused _ _ _ _ _ _ (rw (c .before .before .n .given .1) at (c .before .before .before .before .check .ensures)) _ _ _ refl (c .faulted .ensures) refl
 
 returns-2 : tie.Need-returns-2
-returns-2 c = call-enters _ _ _ _ _ _ (c .before .before .before .before .before .before .before .before .look .ensures) _ _ _ _ _ (c .before .before .before .before .before .before .d .given .1) (c .before .before .before .before .new-ring .ensures .0) (c .before .before .stack-base .ensures .0) (c .before .set-pr .ensures) _ (c .entered .ensures) refl
+returns-2 c = let q = (rw (c .before .before .before .before .before .d .given .1) at (c .before .before .before .before .before .before .before .check .ensures)) in call-enters _ _ _ _ _ _ (q .0) _ _ _ _ _ refl (q .1) (c .before .before .stack-base .ensures .0) (c .before .set-pr .ensures) _ (c .entered .ensures) refl
 
 pub call-spec : {M : Type 1} → statement M
 call-spec =
     tie.close
     (tie.spec
-    look-requires
+    check-requires
     enum-known-n
     faulted-requires
     enum-known-d
-    new-ring-requires
     stack-base-requires
     set-pr-requires
     entered-requires

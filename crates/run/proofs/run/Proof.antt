@@ -3,7 +3,8 @@ use mathlib.Core.Path.{refl}
 use Prim.Native.Nat.{_-_, _*_, _≤_}
 use native.Mathlib.Omega.{arith}
 use borrow.Author.Needs.{needs}
-use Rattle.run.proofs.RunLaws.{prs-in-range, ready-passing, way-starts, way-faults, way-joins, way-ends, way-spent, total-fits, fault-within, answers}
+use Rattle.state.proofs.PassingLaws.{prs-in-range, ready-passing}
+use Rattle.run.proofs.RunLaws.{way-starts, way-faults, way-joins, way-ends, way-spent, total-fits, fault-within, answers}
 use Rattle.run.proofs.run.Statement.{statement}
 use Rattle.run.proofs.run.Tie as tie
 use Rattle.model.specs.Registers.{no-delivery}
@@ -22,7 +23,7 @@ loop-holds : tie.Need-loop-holds Inv-loop μ-loop
 loop-holds c = (way-starts _ _ _ _ _ _ (omega arith) (c .before .before .pre), omega arith)
 
 form-requires : tie.Need-form-requires Inv-loop μ-loop
-form-requires c κs = (ready-passing _ _ _ (c .before .before .before .loop .inv .0 .passes), prs-in-range _ _ _ (c .before .before .before .loop .inv .0 .passes))
+form-requires c κs = (ready-passing _ _ _ _ (c .before .before .before .loop .inv .0 .passes), prs-in-range _ _ _ _ (c .before .before .before .loop .inv .0 .passes))
 
 enum-known-n : tie.Need-enum-known-n Inv-loop μ-loop
 enum-known-n c = search needs

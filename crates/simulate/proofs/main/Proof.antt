@@ -1,7 +1,7 @@
 -- `main` is safe and ends. Assumes nothing.
 use borrow.Author.Needs.{needs}
 use Rattle.image.proofs.PieceLaws.{part-size}
-use Rattle.simulate.proofs.ReadLaws.{ready-words}
+use Rattle.reading.proofs.ReadLaws.{ready-words}
 use Rattle.simulate.proofs.main.Statement.{statement}
 use Rattle.simulate.proofs.main.Tie as tie
 

@@ -1,8 +1,11 @@
 //! One machine, or one image, through both implementations.
 
-use crate::library::{Answer, Lent};
+use crate::checks;
+use crate::library::{Answer, CheckAnswer, Lent};
+use crate::random::Random;
 use crate::reach::{Place, Reach, Unsaved};
-use second::{Descriptor, Instruction, Registers, Reply};
+use second::opcodes::CALL;
+use second::{Check, Descriptor, Fault, Instruction, Pointer, Registers, Reply};
 
 /// What a call is handed.
 #[derive(Clone, Debug, Default, PartialEq, Eq)]
@@ -28,11 +31,17 @@ pub struct Comparer {
     pub reach: Reach,
     pub machines: u64,
     pub images: u64,
+    pub checks: u64,
     mine: Vec<u64>,
     after_run: Vec<u64>,
     lent: Lent,
     image: Vec<u8>,
     texts: [Vec<u8>; 2],
+    /// The pointers that are asked about: how many, and of which draw.
+    pointers: Vec<Pointer>,
+    pointer_count: usize,
+    draw: Random,
+    is_always_same_draw: bool,
 }
 
 /// Bytes behind a buffer, which the library must leave alone like those before it.
@@ -41,6 +50,11 @@ const BEHIND: usize = 64;
 const ROOM: usize = 5;
 /// The largest budget for which a converted image is run.
 const BUDGET: u32 = 4000;
+/// How many pointers are asked about before a machine's run and after it; and how many if it is to be made smaller.
+const POINTERS: usize = 5;
+const MORE_POINTERS: usize = 300;
+/// With more words than this, memory takes long to compare: two pointers are enough.
+const MANY_WORDS: usize = 1 << 20;
 
 impl Comparer {
     pub fn new() -> Comparer {
@@ -48,23 +62,32 @@ impl Comparer {
             reach: Reach::new(),
             machines: 0,
             images: 0,
+            checks: 0,
             mine: Vec::new(),
             after_run: Vec::new(),
             lent: Lent::new(0),
             image: Vec::new(),
             texts: [Vec::new(), Vec::new()],
+            pointers: Vec::new(),
+            pointer_count: POINTERS,
+            draw: Random::new(3),
+            is_always_same_draw: false,
         }
     }
 
-    /// A run with the budget, and then the same steps one by one: reply, registers, every word of memory.
+    /// For making a failing machine smaller: it is asked about many pointers, and again about the same.
+    pub fn for_smaller() -> Comparer {
+        Comparer { pointer_count: MORE_POINTERS, is_always_same_draw: true, ..Comparer::new() }
+    }
+
+    /// A run with the budget, and then the same steps one by one: reply, registers, every word of memory. Before the run
+    /// and after the steps, some pointers through the check of CALL; before each CALL, its TPR.
     pub fn machine(&mut self, machine: &Machine) -> Result<Outcome, Difference> {
         self.machines += 1;
 
         // The runs.
-        let mut registers = machine.registers;
-        self.mine.clear();
-        self.mine.extend_from_slice(&machine.memory);
-        self.lent.set(&machine.registers, &machine.memory);
+        let mut registers = self.lend(&machine.registers, &machine.memory);
+        self.some_pointers(&registers)?;
         let run_reply = second::run(&mut registers, &mut self.mine, machine.budget);
         let answer = self.lent.run(machine.budget);
         self.agree("kuzhlemor_run", run_reply, answer, &registers)?;
@@ -72,10 +95,7 @@ impl Comparer {
         std::mem::swap(&mut self.mine, &mut self.after_run);
 
         // The steps.
-        let mut registers = machine.registers;
-        self.mine.clear();
-        self.mine.extend_from_slice(&machine.memory);
-        self.lent.set(&machine.registers, &machine.memory);
+        let mut registers = self.lend(&machine.registers, &machine.memory);
         let mut reply = match run_reply {
             Reply::Refused { number } => Reply::Refused { number },
             _ => Reply::Spent { count: 0, pointer_words: 0 },
@@ -85,10 +105,14 @@ impl Comparer {
         let mut total = 0;
         for count in 0..machine.budget {
             let opcode = opcode_at_ipr(&registers, &self.mine);
+            let call = if opcode == Some(CALL) { self.check_of_call(&registers)? } else { None };
             let (step_reply, fault) = second::step_and_fault(&mut registers, &mut self.mine);
             let answer = self.lent.step();
             self.agree("kuzhlemor_step", step_reply, answer, &registers)
                 .map_err(|Difference(text)| Difference(format!("step {}: {text}", count + 1)))?;
+            if let Some((tpr, check)) = call {
+                self.answers_by_check(tpr, check, fault, registers.ipr)?;
+            }
             match (fault, step_reply) {
                 (Some(fault), Reply::Spent { .. }) => self.reach.delivered(opcode, fault, step_reply),
                 _ => self.reach.step(opcode, step_reply),
@@ -117,11 +141,90 @@ impl Comparer {
         if reply != run_reply || registers != run_registers || self.mine != self.after_run {
             return Err(Difference(format!("second's own steps and run: {reply:?} and {run_reply:?}")));
         }
+        self.some_pointers(&registers)?;
         self.reach.run(run_reply);
         if !matches!(run_reply, Reply::Refused { .. }) {
             self.reach.changes(machine, &registers, &self.mine);
         }
         Ok(Outcome { run: run_reply, last_step })
+    }
+
+    /// Both get this machine.
+    fn lend(&mut self, registers: &Registers, memory: &[u64]) -> Registers {
+        self.mine.clear();
+        self.mine.extend_from_slice(memory);
+        self.lent.set(registers, memory);
+        *registers
+    }
+
+    /// A machine and one pointer. Answers what both do.
+    pub fn check(&mut self, registers: &Registers, memory: &[u64], pointer: Pointer) -> Result<Check, Difference> {
+        self.lend(registers, memory);
+        self.may_call(registers, pointer)
+    }
+
+    /// Some pointers, of the machine that both have now.
+    fn some_pointers(&mut self, registers: &Registers) -> Result<(), Difference> {
+        if self.is_always_same_draw {
+            self.draw = Random::new(3);
+        }
+        let count = if self.mine.len() > MANY_WORDS { 2 } else { self.pointer_count };
+        let mut pointers = std::mem::take(&mut self.pointers);
+        checks::draw(&mut self.draw, registers, &self.mine, count, &mut pointers);
+        let result = pointers.iter().try_for_each(|pointer| self.may_call(registers, *pointer).map(|_| ()));
+        self.pointers = pointers;
+        result
+    }
+
+    /// The check of one pointer: the answer, field by field; record, padding and memory stay as they are.
+    fn may_call(&mut self, registers: &Registers, pointer: Pointer) -> Result<Check, Difference> {
+        self.checks += 1;
+        let mine = second::may_call(registers, &self.mine, &pointer);
+        let (answer, record_stays) = self.lent.may_call(pointer);
+        let memory_stays = self.lent.memory() == self.mine && self.lent.guards_stand();
+        if answer == CheckAnswer::of(mine) && record_stays && memory_stays {
+            self.reach.check(registers, self.mine.len(), pointer, mine);
+            return Ok(mine);
+        }
+        let Pointer { ring, segno, wordno } = pointer;
+        let mut text = format!("kuzhlemor_may_call, ring {ring} segment {segno} word {wordno}");
+        text +=
+            &format!(", IPR's ring {}:\n  answer: second {mine:?}\n          library {answer:?}", registers.ipr.ring);
+        if !record_stays {
+            text += "\n  the record was written, or its padding";
+        }
+        if !memory_stays {
+            text += "\n  memory was written, or words outside of it";
+        }
+        Err(Difference(text))
+    }
+
+    /// If the CALL at IPR forms its TPR: TPR, and what both answer of it.
+    fn check_of_call(&mut self, registers: &Registers) -> Result<Option<(Pointer, Check)>, Difference> {
+        match checks::formed(registers, &self.mine) {
+            Some(tpr) => self.may_call(registers, tpr).map(|check| Some((tpr, check))),
+            None => Ok(None),
+        }
+    }
+
+    /// A CALL has met this fault, delivered or not, or has moved IPR here: is that its check?
+    fn answers_by_check(
+        &mut self,
+        tpr: Pointer,
+        check: Check,
+        fault: Option<Fault>,
+        ipr: Pointer,
+    ) -> Result<(), Difference> {
+        let is_answer = match check {
+            Check::Refused { .. } => false,
+            Check::Fault(by_check) => fault == Some(by_check),
+            Check::Passes { ring } => fault.is_none() && ipr == Pointer { ring, ..tpr },
+        };
+        if is_answer {
+            self.reach.call(check);
+            return Ok(());
+        }
+        Err(Difference(format!("a CALL of {tpr:?} with {check:?} gave {fault:?} and IPR {ipr:?}")))
     }
 
     /// Is the library's state now the second implementation's?

@@ -6,7 +6,9 @@ use crate::describe;
 use crate::random::Random;
 use second::image::ME_LIMIT;
 use second::opcodes::*;
-use second::{delivery, pointers, Dbr, Descriptor, Fault, Image, Instruction, Pointer, PointerWord, Registers, Reply};
+use second::{
+    calls, delivery, pointers, Dbr, Descriptor, Fault, Image, Instruction, Pointer, PointerWord, Registers, Reply,
+};
 
 /// The instruction's segment: words 16 to 23, all rings.
 const CODE: u16 = 1;
@@ -609,6 +611,42 @@ pub fn deliveries(comparer: &mut Comparer) -> Result<usize, Box<Failure>> {
         }
     }
     Ok(count)
+}
+
+/// The library's directed pointers for the check of CALL, and all brackets and rings; answers how many of each.
+pub fn checks(comparer: &mut Comparer) -> Result<(usize, usize), Box<Failure>> {
+    let cases: Vec<calls::Case> = calls::cases().into_iter().chain(calls::largest_memories()).collect();
+    let count = cases.len();
+    for case in &cases {
+        check(comparer, case)?;
+    }
+    let mut brackets = 0;
+    for case in calls::brackets() {
+        check(comparer, &case)?;
+        brackets += 1;
+    }
+    Ok((count, brackets))
+}
+
+/// One of them, and its CALL, which answers by the check.
+fn check(comparer: &mut Comparer, case: &calls::Case) -> Result<(), Box<Failure>> {
+    let differs = |image: &Image, difference| Box::new((case.name.clone(), machine(image.clone()), difference));
+    match comparer.check(&case.machine.registers, &case.machine.memory, case.pointer) {
+        Ok(check) if check == case.answer => {}
+        Ok(check) => {
+            let text = format!("of {:?} both answer {check:?}, the papers {:?}", case.pointer, case.answer);
+            return Err(differs(&case.machine, Difference(text)));
+        }
+        Err(difference) => return Err(differs(&case.machine, difference)),
+    }
+    let Some((call, reply)) = case.call() else { return Ok(()) };
+    match comparer.machine(&machine(call.clone())) {
+        Ok(Outcome { run, .. }) if run == reply => Ok(()),
+        Ok(Outcome { run, .. }) => {
+            Err(differs(&call, Difference(format!("both answer {run:?}, the papers {reply:?}"))))
+        }
+        Err(difference) => Err(differs(&call, difference)),
+    }
 }
 
 fn machine(Image { registers, memory, budget }: Image) -> Machine {

@@ -96,8 +96,13 @@ pub fn whole(comparer: &mut Comparer, random: &mut Random, machine: &Machine) ->
 
 /// One damage, drawn.
 pub fn damaged(comparer: &mut Comparer, random: &mut Random, machine: &Machine) -> Result<(), Failure> {
+    let image = damaged_image(random, machine);
+    compare(comparer, random, &image, needed(machine.budget)).map(|_| ())
+}
+
+/// A machine's image with one damage.
+pub fn damaged_image(random: &mut Random, machine: &Machine) -> Vec<u8> {
     let mut records = records(random, machine);
-    let length = needed(machine.budget);
     let (one, other) = (random.below(records.len()), random.below(records.len()));
     let mut image = match random.below(6) {
         0 => {
@@ -132,7 +137,7 @@ pub fn damaged(comparer: &mut Comparer, random: &mut Random, machine: &Machine) 
         }
         _ => image.push(random.next() as u8),
     }
-    compare(comparer, random, &image, length).map(|_| ())
+    image
 }
 
 /// Every damage of one image: each truncation, each byte changed, records exchanged, doubled, dropped.

@@ -1,10 +1,10 @@
 //! The C library, called as its header says.
 
 use crate::random::Random;
-use second::{Dbr, Fault, Pointer, Registers, Reply};
+use second::{Check, Dbr, Fault, Pointer, Registers, Reply};
 
 #[repr(C)]
-#[derive(Clone, Copy, Default)]
+#[derive(Clone, Copy, Default, PartialEq, Eq)]
 struct CPointer {
     ring: u8,
     padding: u8,
@@ -12,8 +12,9 @@ struct CPointer {
     word: u16,
 }
 
+/// All of its bytes are in some field, so that equal records are equal byte for byte.
 #[repr(C)]
-#[derive(Clone, Copy, Default)]
+#[derive(Clone, Copy, Default, PartialEq, Eq)]
 struct CRegisters {
     a: u64,
     dbr_address: u32,
@@ -46,6 +47,15 @@ struct CReply {
     pointer_words: u64,
 }
 
+#[repr(C)]
+#[derive(Clone, Copy)]
+struct CCheck {
+    kind: u32,
+    number: u32,
+    ring: u32,
+    pointer: CReplyPointer,
+}
+
 const _: () = assert!(std::mem::size_of::<CRegisters>() == 80);
 const _: () = assert!(std::mem::align_of::<CRegisters>() == 8);
 const _: () = assert!(std::mem::offset_of!(CRegisters, prs) == 22);
@@ -56,12 +66,22 @@ const _: () = assert!(std::mem::size_of::<CReply>() == 32);
 const _: () = assert!(std::mem::offset_of!(CReply, pointer) == 12);
 const _: () = assert!(std::mem::offset_of!(CReply, pointer_words) == 24);
 const _: () = assert!(std::mem::offset_of!(CReplyPointer, segment) == 2);
+const _: () = assert!(std::mem::size_of::<CCheck>() == 20);
+const _: () = assert!(std::mem::offset_of!(CCheck, pointer) == 12);
 
 extern "C" {
     fn kuzhlemor_step(registers: *mut CRegisters, memory: *mut u64, words: usize) -> CReply;
     fn kuzhlemor_run(registers: *mut CRegisters, memory: *mut u64, words: usize, budget: u32) -> CReply;
     fn kuzhlemor_bench(image: *const u8, image_length: usize, text: *mut u8, text_length: usize) -> i64;
     fn kuzhlemor_convert(image: *mut u8, length: usize) -> i64;
+    fn kuzhlemor_may_call(
+        registers: *const CRegisters,
+        memory: *const u64,
+        words: usize,
+        ring: u8,
+        segment: u16,
+        word: u16,
+    ) -> CCheck;
 }
 
 /// A reply as the library gives it; it may be one that no `Reply` is.
@@ -94,9 +114,36 @@ impl Answer {
             kind: reply.kind,
             number: reply.number,
             count: reply.count,
-            pointer: Pointer { ring: reply.pointer.ring, segno: reply.pointer.segment, wordno: reply.pointer.word },
+            pointer: reply.pointer.into(),
             pointer_words: reply.pointer_words,
         }
+    }
+}
+
+impl From<CReplyPointer> for Pointer {
+    fn from(CReplyPointer { ring, segment, word }: CReplyPointer) -> Pointer {
+        Pointer { ring, segno: segment, wordno: word }
+    }
+}
+
+/// A check's answer as the library gives it; it may be one that no `Check` is.
+#[derive(Clone, Copy, Debug, PartialEq, Eq)]
+pub struct CheckAnswer {
+    pub kind: u32,
+    pub number: u32,
+    pub ring: u32,
+    pub pointer: Pointer,
+}
+
+impl CheckAnswer {
+    /// What the header says for a check: what a kind leaves free is 0.
+    pub fn of(check: Check) -> CheckAnswer {
+        let (kind, number, ring, pointer) = match check {
+            Check::Refused { number } => (0, number, 0, Pointer::default()),
+            Check::Fault(Fault { number, at }) => (3, number, 0, at),
+            Check::Passes { ring } => (4, 0, ring, Pointer::default()),
+        };
+        CheckAnswer { kind, number: u32::from(number), ring: u32::from(ring), pointer }
     }
 }
 
@@ -190,6 +237,19 @@ impl Lent {
         // SAFETY: as in `step`.
         let reply = unsafe { kuzhlemor_run(&mut self.record, self.words.as_mut_ptr().add(GUARD), words, budget) };
         Answer::from_c(reply)
+    }
+
+    /// The check of CALL, and whether the record is what it was, its padding too.
+    pub fn may_call(&mut self, Pointer { ring, segno, wordno }: Pointer) -> (CheckAnswer, bool) {
+        self.draw_padding();
+        let before = self.record;
+        let words = self.words.len() - 2 * GUARD;
+        // Both could be written here, so that a call that does is seen and not undefined.
+        let record: *mut CRegisters = &mut self.record;
+        // SAFETY: as in `step`.
+        let CCheck { kind, number, ring, pointer } =
+            unsafe { kuzhlemor_may_call(record, self.words.as_mut_ptr().add(GUARD), words, ring, segno, wordno) };
+        (CheckAnswer { kind, number, ring, pointer: pointer.into() }, self.record == before)
     }
 }
 

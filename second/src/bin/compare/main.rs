@@ -1,6 +1,7 @@
 //! Compares the second implementation with libkuzhlemor.a: `compare quick`, or `compare long N [SEED]`, which draws
 //! N machines and N images beside the directed ones.
 
+mod checks;
 mod compare;
 mod describe;
 mod directed;
@@ -8,6 +9,7 @@ mod generator;
 mod images;
 mod kept;
 mod library;
+mod program;
 mod random;
 mod reach;
 mod repeats;
@@ -111,6 +113,12 @@ fn carry_out(plan: &Plan) -> Result<(), String> {
     let count = directed::deliveries(&mut comparer).map_err(|failure| machine_differs(plan, *failure))?;
     clock.part(&format!("directed: {count} machines for delivered faults and opcode 42, with all that 02 gives"));
 
+    let (count, brackets) = directed::checks(&mut comparer).map_err(|failure| machine_differs(plan, *failure))?;
+    clock.part(&format!(
+        "directed: {count} pointers for the check of CALL, {brackets} over all brackets and rings, with the answers that 02 \
+         gives"
+    ));
+
     let count = repeats::directed(&mut comparer).map_err(|(name, (image, length, difference))| {
         image_differs(plan, &mut Comparer::new(), &name, image, length, difference)
     })?;
@@ -143,6 +151,13 @@ fn carry_out(plan: &Plan) -> Result<(), String> {
     }
     clock.part(&format!("random: {} machines", plan.machines));
 
+    if let Some(path) = std::env::var_os("KUZHLEMOR_MAY_CALL") {
+        let mut random = Random::new(plan.seed.rotate_left(48));
+        let count =
+            program::may_call(&path, &mut random, &mut generator).map_err(|failure| program_differs(plan, failure))?;
+        clock.part(&format!("the program may_call: {count} inputs"));
+    }
+
     let mut random = Random::new(plan.seed.rotate_left(16));
     let mut secrecy = Secrecy::new();
     for _ in 0..plan.pairs {
@@ -169,8 +184,8 @@ fn carry_out(plan: &Plan) -> Result<(), String> {
     if !missed.is_empty() {
         return Err(format!("compare: none different, but never reached: {}", missed.join(", ")));
     }
-    let (machines, images) = (comparer.machines + 2 * secrecy.pairs, comparer.images);
-    println!("compare: {machines} machines, {images} images, none different");
+    let (machines, images, checks) = (comparer.machines + 2 * secrecy.pairs, comparer.images, comparer.checks);
+    println!("compare: {machines} machines, {images} images, {checks} checks, none different");
     Ok(())
 }
 
@@ -274,12 +289,17 @@ fn write_out(name: &str, images: &[(&str, Vec<u8>)], text: String) -> String {
 }
 
 fn machine_differs(plan: &Plan, (name, machine, first): directed::Failure) -> String {
-    let mut comparer = Comparer::new();
+    let mut comparer = Comparer::for_smaller();
     // Where both agree and only the paper differs, nothing fails here, and the machine stays as it is.
     let smaller = describe::shrink(machine, &mut |machine| comparer.machine(machine).is_err());
     let difference = comparer.machine(&smaller).err().unwrap_or(first);
     let text = format!("compare: DIFFERENT, in {name}\n{}\n{}", difference.0, describe::describe(&smaller));
     write_out(&format!("failing-{}", plan.seed), &[("", describe::image(&smaller))], text)
+}
+
+fn program_differs(plan: &Plan, (name, input, difference): program::Failure) -> String {
+    let text = format!("compare: DIFFERENT, in {name}, of {} bytes\n{}", input.len(), difference.0);
+    write_out(&format!("failing-{}", plan.seed), &[("-may-call", input)], text)
 }
 
 fn leaks(plan: &Plan, (difference, n, one, two): Leak) -> String {

@@ -5,7 +5,7 @@ use std::collections::BTreeMap;
 use crate::compare::Machine;
 use second::image::{self, Record};
 use second::opcodes::RCU;
-use second::{Fault, Opcode, Pointer, Registers, Reply, Rules};
+use second::{Check, Fault, Opcode, Pointer, Registers, Reply, Rules};
 
 /// The questions of a machine, and those of an image: a memory of at most 8,192 words has no 1.
 pub const QUESTIONS: [u8; 24] =
@@ -224,6 +224,94 @@ impl Deliveries {
     }
 }
 
+/// The questions of the check of CALL that refuse it, and those that are faults.
+const CHECK_REFUSALS: [u8; 4] = [1, 2, 3, 4];
+const CHECK_FAULTS: [u8; 10] = [11, 12, 13, 14, 15, 26, 27, 28, 29, 30];
+
+/// What pointers were answered.
+struct Checks {
+    /// By number; of the faults, those with the pointer's own ring and those with IPR's, which is above it.
+    refused: [u64; 64],
+    own_ring: [u64; 64],
+    raised: [u64; 64],
+    /// 2, where the registers are in range and the pointer isn't.
+    pointer_out_of_range: u64,
+    /// Passed in a ring of the bracket, and through the gate extension to R2; with the pointer's own ring, and raised.
+    inside: [u64; 2],
+    extension: [u64; 2],
+    /// Passed with another segment than IPR's, and with the same.
+    other_segment: u64,
+    same_segment: u64,
+    /// CALLs that formed their TPR, by the number of their fault; and those that moved.
+    calls: [u64; 64],
+    moved: u64,
+}
+
+impl Checks {
+    fn new() -> Checks {
+        Checks {
+            refused: [0; 64],
+            own_ring: [0; 64],
+            raised: [0; 64],
+            pointer_out_of_range: 0,
+            inside: [0; 2],
+            extension: [0; 2],
+            other_segment: 0,
+            same_segment: 0,
+            calls: [0; 64],
+            moved: 0,
+        }
+    }
+
+    fn answered(&mut self, registers: &Registers, words: usize, pointer: Pointer, check: Check) {
+        let is_raised = pointer.ring < registers.ipr.ring;
+        match check {
+            Check::Refused { number } => {
+                self.refused[usize::from(number)] += 1;
+                let is_of_pointer = number == 2 && second::machine::refusal(registers, words) != Err(2);
+                self.pointer_out_of_range += u64::from(is_of_pointer);
+            }
+            Check::Fault(Fault { number, .. }) => {
+                let counts = if is_raised { &mut self.raised } else { &mut self.own_ring };
+                counts[usize::from(number)] += 1;
+            }
+            Check::Passes { ring } => {
+                // Through the gate extension the ring falls; inside the bracket it is the pointer's.
+                let is_inside = ring == pointer.ring.max(registers.ipr.ring);
+                let counts = if is_inside { &mut self.inside } else { &mut self.extension };
+                counts[usize::from(is_raised)] += 1;
+                let is_same = pointer.segno == registers.ipr.segno;
+                self.same_segment += u64::from(is_same);
+                self.other_segment += u64::from(!is_same);
+            }
+        }
+    }
+
+    fn print(&self, missed: &mut Vec<String>) {
+        let cells = |numbers: &'static [u8], name: &'static str, counts: &[u64; 64]| {
+            let counts = *counts;
+            numbers.iter().map(move |number| (format!("{number} {name}"), counts[usize::from(*number)]))
+        };
+        let refused = cells(&CHECK_REFUSALS, "refuses a check", &self.refused);
+        print_row(refused.chain([("2 of the pointer".to_string(), self.pointer_out_of_range)]), missed);
+        print_row(cells(&CHECK_FAULTS, "of a pointer as it is", &self.own_ring), missed);
+        // Raised to IPR's ring, the new ring isn't above it.
+        print_row(cells(&CHECK_FAULTS[..9], "of a raised pointer", &self.raised), missed);
+        let passes = [
+            ("passes inside the bracket", self.inside[0]),
+            ("passes inside the bracket, raised", self.inside[1]),
+            ("passes through the gate extension", self.extension[0]),
+            ("passes through the gate extension, raised", self.extension[1]),
+            ("passes to another segment", self.other_segment),
+            ("passes within IPR's segment", self.same_segment),
+        ];
+        print_row(passes.into_iter().map(|(name, count)| (name.to_string(), count)), missed);
+        println!("CALLs that answered by the check of their TPR:");
+        let moved = [("moved by its ring".to_string(), self.moved)];
+        print_row(cells(&CHECK_FAULTS, "of a CALL", &self.calls).chain(moved), missed);
+    }
+}
+
 /// The questions of a stored image.
 const STORED_QUESTIONS: [u8; 7] = [41, 42, 43, 44, 2, 3, 4];
 
@@ -310,6 +398,7 @@ pub struct Reach {
     machines: Runs,
     images: Runs,
     conversions: Conversions,
+    checks: Checks,
     changed_memory: u64,
     changed_descriptors: u64,
     changed_dbr: u64,
@@ -330,6 +419,7 @@ impl Reach {
             machines: Runs::default(),
             images: Runs::default(),
             conversions: Conversions::default(),
+            checks: Checks::new(),
             changed_memory: 0,
             changed_descriptors: 0,
             changed_dbr: 0,
@@ -404,6 +494,20 @@ impl Reach {
         self.conversions.listed += 1;
     }
 
+    /// What the check of CALL answered of a pointer, with so many words of memory.
+    pub fn check(&mut self, registers: &Registers, words: usize, pointer: Pointer, check: Check) {
+        self.checks.answered(registers, words, pointer, check);
+    }
+
+    /// A CALL that answered by its check.
+    pub fn call(&mut self, check: Check) {
+        match check {
+            Check::Refused { .. } => {}
+            Check::Fault(Fault { number, .. }) => self.checks.calls[usize::from(number)] += 1,
+            Check::Passes { .. } => self.checks.moved += 1,
+        }
+    }
+
     /// Prints the tables; answers what was never reached.
     pub fn print(&self) -> Vec<String> {
         let mut missed = Vec::new();
@@ -425,6 +529,8 @@ impl Reach {
         self.images.print(&IMAGE_QUESTIONS, &mut missed);
         println!("conversions of the same images:");
         self.conversions.print(&mut missed);
+        println!("pointers through the check of CALL:");
+        self.checks.print(&mut missed);
         missed
     }
 }

@@ -7,9 +7,9 @@ use Rattle.loading.specs.View.{Loading-within}
 use borrow.Author.Needs.{needs}
 use Rattle.image.proofs.LoadLaws.{may-load}
 use Rattle.image.proofs.PieceLaws.{read-pieces}
-use Rattle.simulate.proofs.ReadLaws.{reads}
-use Rattle.simulate.proofs.read_image.Statement.{statement}
-use Rattle.simulate.proofs.read_image.Tie as tie
+use Rattle.reading.proofs.ReadLaws.{reads}
+use Rattle.reading.proofs.read_image.Statement.{statement}
+use Rattle.reading.proofs.read_image.Tie as tie
 
 abbrev Inv-loop : tie.InvT-loop
 Inv-loop store₀ buffer₀ x₀ kept₀ turns₀ t11 store buffer x kept turns =

@@ -5,7 +5,7 @@ use Prim.Native.Nat.{ℕ, _≤_}
 use lib.ListN.{length}
 use Rattle.image.specs.declared.load.LoadOutcome.the-variants.{Refused, More, Ready}
 use Rattle.image.specs.declared.load.Loaded.{Loaded}
-use Rattle.simulate.specs.Read.{Words-within, Ready-within}
+use Rattle.reading.specs.Read.{Words-within, Ready-within}
 
 module _ (x : Loaded) (m : List ℕ) where
   pub refused-within : (n : ℕ) → x .outcome ≡ Refused n → Ready-within x m

@@ -1,0 +1,4 @@
+-- Laws of this crate. Assumes nothing.
+mod CheckLaws
+mod NumberLaws
+mod LineLaws
