@@ -48,11 +48,18 @@ pub fn transfer(core: Core, code: Descriptor, memory: &[u64], opcode: u8, t: Poi
     }
 }
 
-// PR7 after a call: the segment of the ring's own number, word 0.
-fn stack_base(ring: u64) -> Pointer
-    requires { ⌜ ring ≤ 7 ⌝ }
-    ensures { λ p. ⌜ (as-pointer p ≡ Step.stack-base ring) × Pointer-within p ⌝ }
+// PR7 after a call: word 0 of PR6's segment where the ring is the one before, else of the segment of the ring's own number.
+fn stack_base(before: u64, ring: u64, pr6: Pointer) -> Pointer
+    requires { ⌜ (ring ≤ 7) × (pr6 .segment .0 ≤ 65535) ⌝ }
+    ensures { λ p. ⌜ (as-pointer p ≡ Step.stack-base before ring (as-pointer pr6)) × (p .ring ≤ 7) × (p .segment .0 ≤ 65535) × (p .word .0 ≤ 65535) ⌝ }
 {
+    if ring == before {
+        return Pointer {
+            ring,
+            segment: pr6.segment,
+            word: WordNumber(0),
+        };
+    }
     Pointer {
         ring,
         segment: SegmentNumber(ring),
@@ -86,7 +93,8 @@ pub fn call(core: Core, code: Descriptor, prs: &mut [u16; 24], memory: &[u64], t
     match check(dbr, memory, ipr, t) {
         Checked::Bad(n) => state::faulted(core, code, n, t),
         Checked::Ring(d, ring) => {
-            state::prs::set_pr(prs, 7, stack_base(ring));
+            let pr6 = state::prs::pr(prs, 6);
+            state::prs::set_pr(prs, 7, stack_base(ipr.ring, ring, pr6));
             let mut p = t;
             p.ring = ring;
             entered(core, p, d)
