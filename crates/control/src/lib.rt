@@ -56,7 +56,7 @@ fn stack_base(before: u64, ring: u64, pr6: Pointer) -> Pointer
     if ring == before {
         return Pointer {
             ring,
-            segment: pr6.segment,
+            segment: SegmentNumber(pr6.segment.0),
             word: WordNumber(0),
         };
     }
