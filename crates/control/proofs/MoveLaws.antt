@@ -1,12 +1,12 @@
 -- Transfers, CALL and RETURN do what their programs say, and the descriptor that they pass on is right for the ring that they enter. Assumes nothing.
 use mathlib.Core.Path.{_≡_, refl, sym, _∙_, ap}
-use mathlib.Core.Bool.{Bool, true, false, not, cond, _&&_}
+use mathlib.Core.Bool.{Bool, true, false, not, _&&_}
 use mathlib.Core.List.{List, [], map}
 use Prim.Native.Nat.{ℕ, zero, suc, _≤_}
 use native.Mathlib.Omega.{arith}
 use lib.Dec.{leb}
 use lib.ListN.{length, getD, set}
-use borrow.Author.Tests.{leb-true, le-leb, eq-eqb, ne-eqb, not-true, not-false}
+use borrow.Author.Tests.{leb-true, le-leb, not-true, not-false}
 use Rattle.model.specs.Words as Words
 use Rattle.model.specs.Words.{Pointer, descriptor-in}
 use Rattle.model.specs.Registers.{Dbr, Registers, Machine, machine, zero-pointer, pr, with-ipr, with-pr, with-prs, with-ring-at-least}
@@ -108,31 +108,21 @@ module _ (c : Core) (d : Descriptor) (m : List ℕ) (t : Pointer) (k : ℕ) (b :
 
 pub ruleset moves = (transfer-not-taken, transfer-refused, transfer-passes)
 
--- PR7 after CALL
-module _ (b n : ℕ) (p : Pointer) where
-  pub stack-stays : n ≡ b → _≡_ {A = Pointer} (record { ring = n; segment = p .segment; word = 0 }) (Step.stack-base b n p)
-  unfolding Step.stack-base
-  stack-stays e = ap (λ s. record { ring = n; segment = cond s (p .segment) n; word = 0 }) (sym (eq-eqb n b e))
-
-  pub stack-falls : (n ≡ b → ⊥) → _≡_ {A = Pointer} (record { ring = n; segment = n; word = 0 }) (Step.stack-base b n p)
-  unfolding Step.stack-base
-  stack-falls h = ap (λ s. record { ring = n; segment = cond s (p .segment) n; word = 0 }) (sym (ne-eqb n b h))
-
 -- CALL
 module _ (c : Core) (d : Descriptor) (ps : List Pointer) (m : List ℕ) (t : Pointer) (y : Translated) (s : looked (as-dbr (c .dbr)) m t (call-questions (as-pointer (c .ipr)) t) y) (x : After) where
   pub call-refused : (n : ℕ) (u : Code.Pointer) → y ≡ Refused n → x ≡ faulted-after c d n u → as-pointer u ≡ t → Does c d ps m (Step.call (registers-with c ps) t) x ps m
   unfolding Step.call Step.check-call
   call-refused n u e f h = does-refused-look c d ps m t _ y s _ n u e x f h
 
-  pub call-enters : (e : Descriptor) (n : ℕ) (q : Pointer) (ps-now : List Pointer) → y ≡ Passed e → n ≡ new-ring t (descriptor-in (e .0)) → (p : Pointer) → p ≡ getD ps 6 zero-pointer → q ≡ Step.stack-base (c .ipr .ring) n p →
-      ps-now ≡ set ps 7 q → (u : Code.Pointer) → Enters c u e x → as-pointer u ≡ record { ring = n; segment = t .segment; word = t .word } →
+  pub call-enters : (e : Descriptor) (n : ℕ) (ps-now : List Pointer) → y ≡ Passed e → n ≡ new-ring t (descriptor-in (e .0)) →
+      ps-now ≡ set ps 7 (Step.stack-base (c .ipr .ring) n (getD ps 6 zero-pointer)) → (u : Code.Pointer) → Enters c u e x → as-pointer u ≡ record { ring = n; segment = t .segment; word = t .word } →
       Does c d ps m (Step.call (registers-with c ps) t) x ps-now m
   unfolding Step.call Step.check-call Step.called with-ipr with-pr with-prs pr
-  call-enters e n q ps-now f k p v b z u h g =
+  call-enters e n ps-now f k z u h g =
       let w = rw f at s in
       let ring-same : u .ring ≡ n = ap (λ (p : Pointer). p .ring) g in
       does-enter c d ps m _ u e x h ps-now (called-right (length m) (e .0) (w .found .right) _ t (u .ring) (ring-same ∙ k) (w .asked))
-      (look-goes-on c d ps m t _ y s _ e f ∙ rw (← k, g, z, b, v))
+      (look-goes-on c d ps m t _ y s _ e f ∙ rw (← k, g, z))
 
 pub ruleset calls = (call-refused, call-enters)
 

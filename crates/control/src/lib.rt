@@ -18,8 +18,6 @@ use state::Core;
 use state::End;
 use words::descriptor::Descriptor;
 use words::pointer::Pointer;
-use words::pointer::SegmentNumber;
-use words::pointer::WordNumber;
 
 // Control goes on at `p`, in the segment whose descriptor has passed.
 fn entered(core: Core, p: Pointer, d: Descriptor) -> After
@@ -45,25 +43,6 @@ pub fn transfer(core: Core, code: Descriptor, memory: &[u64], opcode: u8, t: Poi
     match segments::access::look(Use::Transfer, dbr, memory, ipr, t) {
         Translated::Refused(n) => state::faulted(core, code, n, t),
         Translated::Passed(d) => entered(core, t, d),
-    }
-}
-
-// PR7 after a call: word 0 of PR6's segment where the ring is the one before, else of the segment of the ring's own number.
-fn stack_base(before: u64, ring: u64, pr6: Pointer) -> Pointer
-    requires { ⌜ (ring ≤ 7) × (pr6 .segment .0 ≤ 65535) ⌝ }
-    ensures { λ p. ⌜ (as-pointer p ≡ Step.stack-base before ring (as-pointer pr6)) × (p .ring ≤ 7) × (p .segment .0 ≤ 65535) × (p .word .0 ≤ 65535) ⌝ }
-{
-    if ring == before {
-        return Pointer {
-            ring,
-            segment: SegmentNumber(pr6.segment.0),
-            word: WordNumber(0),
-        };
-    }
-    Pointer {
-        ring,
-        segment: SegmentNumber(ring),
-        word: WordNumber(0),
     }
 }
 
@@ -93,8 +72,7 @@ pub fn call(core: Core, code: Descriptor, prs: &mut [u16; 24], memory: &[u64], t
     match check(dbr, memory, ipr, t) {
         Checked::Bad(n) => state::faulted(core, code, n, t),
         Checked::Ring(d, ring) => {
-            let pr6 = state::prs::pr(prs, 6);
-            state::prs::set_pr(prs, 7, stack_base(ipr.ring, ring, pr6));
+            state::prs::set_stack_base(prs, ipr.ring, ring);
             let mut p = t;
             p.ring = ring;
             entered(core, p, d)

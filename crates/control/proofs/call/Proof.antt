@@ -18,14 +18,8 @@ faulted-requires c κs = search (needs, calls)
 enum-known-d : tie.Need-enum-known-d
 enum-known-d c = search (needs, calls)
 
-pr-requires : tie.Need-pr-requires
-pr-requires c κs = search (needs, calls)
-
-stack-base-requires : tie.Need-stack-base-requires
-stack-base-requires c κs = ((rw (c .before .before .before .before .d .given .1) at (c .before .before .before .before .before .before .check .ensures)) .2, c .before .pr .ensures .2)
-
-set-pr-requires : tie.Need-set-pr-requires
-set-pr-requires c κs = search (needs, calls)
+set-stack-base-requires : tie.Need-set-stack-base-requires
+set-stack-base-requires c κs = (rw (c .before .before .d .given .1) at (c .before .before .before .before .check .ensures)) .2
 
 entered-requires : tie.Need-entered-requires
 entered-requires c κs = search (needs, calls)
@@ -36,8 +30,8 @@ returns c = call-refused _ _ _ _ _ _ (rw (c .before .before .n .given .1) at (c 
 returns-2 : tie.Need-returns-2
 unfolding pr-of
 returns-2 c =
-    let q = (rw (c .before .before .before .before .before .before .before .d .given .1) at (c .before .before .before .before .before .before .before .before .before .check .ensures)) in
-    call-enters _ _ _ _ _ _ (q .0) _ _ _ _ _ refl (q .1) _ (c .before .before .before .before .pr .ensures .0) (c .before .before .stack-base .ensures .0) (c .before .set-pr .ensures) _ (c .entered .ensures) refl
+    let q = (rw (c .before .before .before .before .d .given .1) at (c .before .before .before .before .before .before .check .ensures)) in
+    call-enters _ _ _ _ _ _ (q .0) _ _ _ _ refl (q .1) (c .before .set-stack-base .ensures) _ (c .entered .ensures) refl
 
 pub call-spec : {M : Type 1} → statement M
 call-spec =
@@ -47,9 +41,7 @@ call-spec =
     enum-known-n
     faulted-requires
     enum-known-d
-    pr-requires
-    stack-base-requires
-    set-pr-requires
+    set-stack-base-requires
     entered-requires
     returns
     returns-2)
