@@ -209,7 +209,7 @@ static inline int check_call(const kuzhlemor_registers *r, uint64_t d, kuzhlemor
     return 0;
 }
 
-/* CALL: its check, and the move by its ring. */
+/* CALL: its check, and the move by its ring. The stack stays PR6's where the ring stays. */
 static int call(kuzhlemor_registers *r, uint64_t d, kuzhlemor_pointer tpr)
 {
     uint8_t ring;
@@ -217,8 +217,8 @@ static int call(kuzhlemor_registers *r, uint64_t d, kuzhlemor_pointer tpr)
 
     if (number != 0)
         return number;
+    r->prs[7] = (kuzhlemor_pointer){ring, ring == r->ipr.ring ? r->prs[6].segment : ring, 0};
     r->ipr = (kuzhlemor_pointer){ring, tpr.segment, tpr.word};
-    r->prs[7] = (kuzhlemor_pointer){ring, ring, 0};
     return COMPLETED;
 }
 

@@ -165,6 +165,90 @@ static machine save_too_short(void)
     return m;
 }
 
+/* Two blends in ring 4, each with a stack of its own: PR6 is in segment 6 for the first and in segment 7 for the second. Each has
+ * a helper at its gate that notes A on its caller's stack, where PR7 points, and each calls the other's. The second then calls
+ * the formula, and ends the run. */
+static machine two_stacks(void)
+{
+    machine m = bench();
+    uint64_t *first = &m.memory[16];
+    uint64_t *second = &m.memory[24];
+
+    m.registers.a = 5;
+    m.registers.dbr.length = 8;
+    m.registers.ipr.word = 2;
+    m.registers.prs[4] = pointer_to(4, 4, 0);
+    m.registers.prs[5] = pointer_to(4, 7, 0);
+    m.registers.prs[6] = pointer_to(4, 6, 0);
+    m.memory[4] = descriptor_word(16, 8, 4, 4, 4, R | E | V, 1);
+    m.memory[5] = descriptor_word(24, 8, 4, 4, 4, R | E | V, 1);
+    m.memory[6] = descriptor_word(32, 8, 4, 4, 4, R | W | V, 0);
+    m.memory[7] = descriptor_word(40, 8, 4, 4, 4, R | W | V, 0);
+    first[0] = by_pr(STA, 7, 0);
+    first[1] = by_pr(RETURN, 3, 0);
+    first[2] = near(EAP, 2) | reg(3);
+    first[3] = by_pr(CALL, 1, 0);
+    first[4] = by_pr(EAP, 5, 0) | reg(6);
+    first[5] = by_pr(TRA, 1, 2);
+    second[0] = by_pr(STA, 7, 0);
+    second[1] = by_pr(RETURN, 3, 0);
+    second[2] = near(LDI, 0) | lit(9);
+    second[3] = near(EAP, 2) | reg(3);
+    second[4] = by_pr(CALL, 4, 0);
+    second[5] = near(EAP, 2) | reg(3);
+    second[6] = by_pr(CALL, 2, 0);
+    second[7] = by_pr(CALL, 0, 0);
+    return m;
+}
+
+/* A formula of six words that calls a helper within its own ring, which puts the secret on the stack, at PR7. The caller's PR6 is
+ * in the laboratory's segment 5. Back there the laboratory looks into it: with a word there it ends the run from its word 4, else
+ * from its word 5. */
+static machine formula_with_a_helper(void)
+{
+    machine m = bench();
+    uint64_t *laboratory = &m.memory[16];
+    uint64_t *formula = &m.memory[32];
+
+    m.registers.prs[6] = pointer_to(4, 5, 0);
+    m.memory[1] = descriptor_word(32, 10, 1, 1, 5, R | E | V, 1);
+    m.memory[2] = descriptor_word(48, 8, 1, 1, 1, R | W | V, 0);
+    laboratory[0] = near(EAP, 2) | reg(3);
+    laboratory[1] = by_pr(CALL, 2, 0);
+    laboratory[2] = by_pr(LDA, 1, 0);
+    laboratory[3] = near(TZE, 2);
+    laboratory[4] = by_pr(CALL, 0, 0);
+    laboratory[5] = by_pr(CALL, 0, 0);
+    formula[1] = near(EAP, 2) | reg(4);
+    formula[2] = near(CALL, 2);
+    formula[3] = by_pr(RETURN, 3, 0);
+    formula[4] = near(LDA, 4);
+    formula[5] = by_pr(STA, 7, 0);
+    formula[6] = near(LDI, 0);
+    formula[7] = by_pr(RETURN, 4, 0);
+    formula[8] = 250;
+    formula[9] = pointer_word(pointer_to(1, 2, 0));
+    return m;
+}
+
+/* It calls with the PR6 that it found. */
+static machine careless_formula(void)
+{
+    machine m = formula_with_a_helper();
+
+    m.memory[32] = near(LDI, 0);
+    return m;
+}
+
+/* It sets PR6 to a segment of its own first. */
+static machine careful_formula(void)
+{
+    machine m = formula_with_a_helper();
+
+    m.memory[32] = near(EAP, 9) | I_ON | reg(6);
+    return m;
+}
+
 /* A machine's image, and at its end word 18 as an editor wrote it once more: the dose goes to the formula's word. */
 static void write_again(const char *folder, const char *name, const machine *m)
 {
@@ -190,6 +274,9 @@ int main(int argc, char **argv)
         {"low-pr", low_pr, 100},
         {"mended", mended, 100},
         {"save-too-short", save_too_short, 100},
+        {"two-stacks", two_stacks, 100},
+        {"careless-formula", careless_formula, 100},
+        {"careful-formula", careful_formula, 100},
     };
     const char *folder = argc > 1 ? argv[1] : ".";
     machine m = blend();

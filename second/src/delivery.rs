@@ -64,7 +64,7 @@ fn off(machine: Image) -> Image {
 }
 
 /// Without an address.
-fn plain(opcode: u8) -> Instruction {
+pub(crate) fn plain(opcode: u8) -> Instruction {
     Instruction { opcode, ..Instruction::default() }
 }
 
@@ -74,7 +74,7 @@ fn by_word(opcode: u8, offset: u16) -> u64 {
 }
 
 /// As SPP writes it.
-fn pointer_word(Pointer { ring, segno, wordno }: Pointer) -> u64 {
+pub(crate) fn pointer_word(Pointer { ring, segno, wordno }: Pointer) -> u64 {
     u64::from(ring) << 28 | u64::from(segno) << 16 | u64::from(wordno)
 }
 
@@ -93,19 +93,19 @@ fn frame(number: u8, at: Pointer, registers: &Registers) -> [u64; 13] {
 }
 
 /// The machine before a run and after each of its steps, with the pointer words of each.
-struct Course {
+pub(crate) struct Course {
     name: String,
     machines: Vec<Image>,
     pointer_words: Vec<u64>,
 }
 
 impl Course {
-    fn new(name: impl Into<String>, machine: Image) -> Course {
+    pub(crate) fn new(name: impl Into<String>, machine: Image) -> Course {
         Course { name: name.into(), machines: vec![machine], pointer_words: vec![] }
     }
 
     /// A step that changes this.
-    fn step(mut self, pointer_words: u64, change: impl FnOnce(&mut Image)) -> Course {
+    pub(crate) fn step(mut self, pointer_words: u64, change: impl FnOnce(&mut Image)) -> Course {
         let before = self.machines[self.machines.len() - 1].clone();
         self.machines.push(before.with(change));
         self.pointer_words.push(pointer_words);
@@ -113,7 +113,7 @@ impl Course {
     }
 
     /// A step that changes this, and IPR goes on by a word.
-    fn completes(self, pointer_words: u64, change: impl FnOnce(&mut Image)) -> Course {
+    pub(crate) fn completes(self, pointer_words: u64, change: impl FnOnce(&mut Image)) -> Course {
         self.step(pointer_words, |m| {
             change(m);
             m.registers.ipr.wordno += 1;
@@ -121,7 +121,7 @@ impl Course {
     }
 
     /// A fault is delivered: its frame is in the words from `address` on.
-    fn delivers_to(self, address: usize, (number, at): (u8, Pointer), pointer_words: u64) -> Course {
+    pub(crate) fn delivers_to(self, address: usize, (number, at): (u8, Pointer), pointer_words: u64) -> Course {
         self.step(pointer_words, |m| {
             let frame = frame(number, at, &m.registers);
             m.memory[address..address + 13].copy_from_slice(&frame);
@@ -152,16 +152,16 @@ impl Course {
     }
 }
 
-struct Cases(Vec<Case>);
+pub(crate) struct Cases(pub(crate) Vec<Case>);
 
 impl Cases {
     /// The whole course.
-    fn add(&mut self, course: Course, end: End) {
+    pub(crate) fn add(&mut self, course: Course, end: End) {
         self.0.push(course.rest(course.name.clone(), 0, end));
     }
 
     /// The whole course; with each budget that ends it sooner; and from each of its steps on.
-    fn add_all(&mut self, course: Course, end: End) {
+    pub(crate) fn add_all(&mut self, course: Course, end: End) {
         let steps = course.steps();
         for budget in 0..steps {
             let name = format!("{}, budget {budget}", course.name);

@@ -1,12 +1,13 @@
-//! A second implementation of the ring processor, written from document 01 and requests L1, L2, L4 and L5 of
+//! A second implementation of the ring processor, written from document 01 and requests L1, L2, L4, L5 and L6 of
 //! document 02 alone, to be compared with the first.
 //!
 //! It reads like the paper: `words` has the descriptor, the pointer word and the instruction; `machine` the registers,
 //! the questions, a step, a run and the check of CALL; `frame` what a delivered fault leaves; `image` the records;
 //! `listing` the text; `bench` the call of the bench's firmware; `convert` the program for stored images; `may_call` the
-//! program that asks the check. `repeats` and `states` have directed images, `pointers` and `delivery` directed machines
-//! with what each of them asks for, `calls` pointers for the check with its answers, and `opcodes` the numbers that they
-//! use; they are for the tests and the comparison. A comment that starts with a number is the question of that number.
+//! program that asks the check. `repeats` and `states` have directed images, `pointers`, `delivery` and `stacks` directed
+//! machines with what each of them asks for, `calls` pointers for the check with its answers, and `opcodes` the numbers
+//! that they use; they are for the tests and the comparison. A comment that starts with a number is the question of that
+//! number.
 
 #![forbid(unsafe_code)]
 
@@ -22,6 +23,7 @@ pub mod may_call;
 pub mod opcodes;
 pub mod pointers;
 pub mod repeats;
+pub mod stacks;
 pub mod states;
 pub mod words;
 

@@ -382,10 +382,18 @@ fn check_call(registers: &Registers, memory: &[u64], tpr: &Pointer) -> Result<u8
     Ok(new_ring)
 }
 
-/// CALL's move, by the ring of a check that passed.
+/// The stack base that a call leaves. Where the ring is as it was, the caller's stack goes on, and a ring may have
+/// several: its segment is the stack pointer's. Where the ring falls, nothing is taken over from the outer one: the
+/// segment is that of the new ring's number.
+fn stack_base(ipr: &Pointer, new_ring: u8, stack_pointer: &Pointer) -> Pointer {
+    let segno = if new_ring == ipr.ring { stack_pointer.segno } else { u16::from(new_ring) };
+    Pointer { ring: new_ring, segno, wordno: 0 }
+}
+
+/// CALL's move, by the ring of a check that passed. The stack base goes by IPR as it was before.
 fn move_by_call(registers: &mut Registers, tpr: &Pointer, new_ring: u8) {
+    registers.pr[7] = stack_base(&registers.ipr, new_ring, &registers.pr[6]);
     registers.ipr = Pointer { ring: new_ring, ..*tpr };
-    registers.pr[7] = Pointer { ring: new_ring, segno: u16::from(new_ring), wordno: 0 };
 }
 
 /// RETURN: 11 to 15, 25.

@@ -122,10 +122,11 @@ static void goes_to_through(const char *name, machine before, kuzhlemor_pointer 
 /* Completes with the move that a call makes, and nothing else changed. */
 static void calls_through(const char *name, machine before, kuzhlemor_pointer ipr, unsigned pointer_words)
 {
+    bool same_ring = ipr.ring == before.registers.ipr.ring;
     machine after = before;
 
     after.registers.ipr = ipr;
-    after.registers.prs[7] = pointer_to(ipr.ring, ipr.ring, 0);
+    after.registers.prs[7] = pointer_to(ipr.ring, same_ring ? before.registers.prs[6].segment : ipr.ring, 0);
     completes_through(name, &before, &after, pointer_words);
 }
 
@@ -525,6 +526,31 @@ static void transfers(void)
     goes_to("highest ring of the execute bracket",
             with_other(4, by_pr(TRA, 2, 3), descriptor_word(48, 16, 0, 4, 6, E | V, 0)), pointer_to(4, OTHER, 3));
     faults("TRA past the segment's end", desk(4, near(TRA, 14)), 15, pointer_to(4, CODE, 16));
+}
+
+/* PR7 after CALL: word 0 of PR6's segment where the ring stays as IPR's was, else of the segment of the new ring's number. */
+static void stacks(void)
+{
+    const uint64_t rings_4_4_6 = descriptor_word(OTHER_AT, 16, 4, 4, 6, E | V, 2);
+    machine m = with_other(4, by_pr(CALL, 2, 1), rings_4_4_6);
+    machine after;
+
+    m.registers.prs[6] = pointer_to(6, 9, 3);
+    after = m;
+    after.registers.ipr = pointer_to(4, OTHER, 1);
+    after.registers.prs[7] = pointer_to(4, 9, 0);
+    completes("CALL within the ring keeps to PR6's stack", &m, &after);
+    m.registers.prs[2].ring = after.registers.prs[2].ring = 5;
+    completes("the same by a pointer of a higher ring", &m, &after);
+    m.registers.prs[6].segment = after.registers.prs[6].segment = after.registers.prs[7].segment = 4095;
+    completes("a stack in the last segment", &m, &after);
+
+    m = with_other(5, by_pr(CALL, 2, 1), rings_4_4_6);
+    m.registers.prs[6] = pointer_to(6, 9, 3);
+    after = m;
+    after.registers.ipr = pointer_to(4, OTHER, 1);
+    after.registers.prs[7] = pointer_to(4, 4, 0);
+    completes("CALL to a lower ring has that ring's stack", &m, &after);
 }
 
 static void calls_and_returns(void)
@@ -1191,6 +1217,7 @@ void each_case(expectation *expect)
     after_chains();
     unread_chains();
     transfers();
+    stacks();
     calls_and_returns();
     brackets();
     segments();

@@ -380,6 +380,46 @@ static void frames_in_runs(void)
     expect_run("and the next fetch", &start, 9, &wanted, fault(12, 1, pointer_to(0, 1, 0), 0));
 }
 
+/* Two programs in ring 4 on stacks of their own: each call within the ring keeps to the stack that PR6 is in, and a gate below has
+ * that ring's. */
+static void two_stacks(void)
+{
+    machine m = empty_machine(64);
+    machine after;
+
+    m.registers.dbr = (kuzhlemor_dbr){0, 5};
+    m.registers.ipr = pointer_to(4, 2, 0);
+    for (int k = 0; k < 8; k++)
+        m.registers.prs[k].ring = 4;
+    m.registers.prs[1] = pointer_to(4, 3, 0);
+    m.registers.prs[2] = pointer_to(4, 4, 0);
+    m.registers.prs[5] = pointer_to(5, 12, 6);
+    m.registers.prs[6] = pointer_to(5, 11, 7);
+    m.memory[2] = descriptor_word(16, 8, 4, 4, 4, R | E | V, 2);
+    m.memory[3] = descriptor_word(24, 8, 4, 4, 4, R | E | V, 1);
+    m.memory[4] = descriptor_word(32, 8, 1, 2, 5, R | E | V, 1);
+    m.memory[16] = by_pr(CALL, 1, 0);
+    m.memory[17] = by_pr(CALL, 2, 0);
+    m.memory[24] = by_pr(EAP, 5, 0) | reg(6);
+    m.memory[25] = near(EAP, 0) | reg(3);
+    m.memory[26] = near(CALL, 1);
+    m.memory[27] = by_pr(CALL, 0, 1);
+    m.registers.prs[0] = pointer_to(4, 2, 0);
+
+    after = m;
+    after.registers.ipr = pointer_to(4, 3, 0);
+    after.registers.prs[7] = pointer_to(4, 11, 0);
+    expect_run("the first stack", &m, 1, &after, spent(1, 0));
+    after.registers.ipr = pointer_to(4, 3, 3);
+    after.registers.prs[6] = pointer_to(5, 12, 6);
+    after.registers.prs[3] = pointer_to(4, 3, 1);
+    after.registers.prs[7] = pointer_to(4, 12, 0);
+    expect_run("the second stack", &m, 4, &after, spent(4, 0));
+    after.registers.ipr = pointer_to(2, 4, 0);
+    after.registers.prs[7] = pointer_to(2, 2, 0);
+    expect_run("a gate below", &m, 6, &after, spent(6, 0));
+}
+
 /* 1, of 16,777,217 words; one less isn't refused. */
 static void largest_memory(void)
 {
@@ -527,6 +567,7 @@ int main(void)
     handlers();
     handlers_that_fault();
     frames_in_runs();
+    two_stacks();
     largest_memory();
     random_machines();
     printf("tests/c/run: %lu checks passed\n", checks);

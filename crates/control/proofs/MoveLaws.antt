@@ -5,11 +5,11 @@ use mathlib.Core.List.{List, [], map}
 use Prim.Native.Nat.{ℕ, zero, suc, _≤_}
 use native.Mathlib.Omega.{arith}
 use lib.Dec.{leb}
-use lib.ListN.{length, set}
+use lib.ListN.{length, getD, set}
 use borrow.Author.Tests.{leb-true, le-leb, not-true, not-false}
 use Rattle.model.specs.Words as Words
 use Rattle.model.specs.Words.{Pointer, descriptor-in}
-use Rattle.model.specs.Registers.{Dbr, Registers, Machine, machine, with-ipr, with-pr, with-prs, with-ring-at-least}
+use Rattle.model.specs.Registers.{Dbr, Registers, Machine, machine, zero-pointer, pr, with-ipr, with-pr, with-prs, with-ring-at-least}
 use Rattle.model.specs.Questions.{segment-questions, may-execute, return-questions, transfer-questions, new-ring, call-questions}
 use Rattle.model.specs.Program.{Program, finish, execute, descriptor-of}
 use Rattle.model.specs.Step as Step
@@ -114,15 +114,15 @@ module _ (c : Core) (d : Descriptor) (ps : List Pointer) (m : List ℕ) (t : Poi
   unfolding Step.call Step.check-call
   call-refused n u e f h = does-refused-look c d ps m t _ y s _ n u e x f h
 
-  pub call-enters : (e : Descriptor) (n : ℕ) (q : Pointer) (ps-now : List Pointer) → y ≡ Passed e → n ≡ new-ring t (descriptor-in (e .0)) → q ≡ Step.stack-base n →
-      ps-now ≡ set ps 7 q → (u : Code.Pointer) → Enters c u e x → as-pointer u ≡ record { ring = n; segment = t .segment; word = t .word } →
+  pub call-enters : (e : Descriptor) (n : ℕ) (ps-now : List Pointer) → y ≡ Passed e → n ≡ new-ring t (descriptor-in (e .0)) →
+      ps-now ≡ set ps 7 (Step.stack-base (c .ipr .ring) n (getD ps 6 zero-pointer)) → (u : Code.Pointer) → Enters c u e x → as-pointer u ≡ record { ring = n; segment = t .segment; word = t .word } →
       Does c d ps m (Step.call (registers-with c ps) t) x ps-now m
-  unfolding Step.call Step.check-call Step.called with-ipr with-pr with-prs
-  call-enters e n q ps-now f k b z u h g =
+  unfolding Step.call Step.check-call Step.called with-ipr with-pr with-prs pr
+  call-enters e n ps-now f k z u h g =
       let w = rw f at s in
       let ring-same : u .ring ≡ n = ap (λ (p : Pointer). p .ring) g in
       does-enter c d ps m _ u e x h ps-now (called-right (length m) (e .0) (w .found .right) _ t (u .ring) (ring-same ∙ k) (w .asked))
-      (look-goes-on c d ps m t _ y s _ e f ∙ rw (← k, g, z, b))
+      (look-goes-on c d ps m t _ y s _ e f ∙ rw (← k, g, z))
 
 pub ruleset calls = (call-refused, call-enters)
 

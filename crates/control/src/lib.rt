@@ -18,8 +18,6 @@ use state::Core;
 use state::End;
 use words::descriptor::Descriptor;
 use words::pointer::Pointer;
-use words::pointer::SegmentNumber;
-use words::pointer::WordNumber;
 
 // Control goes on at `p`, in the segment whose descriptor has passed.
 fn entered(core: Core, p: Pointer, d: Descriptor) -> After
@@ -45,18 +43,6 @@ pub fn transfer(core: Core, code: Descriptor, memory: &[u64], opcode: u8, t: Poi
     match segments::access::look(Use::Transfer, dbr, memory, ipr, t) {
         Translated::Refused(n) => state::faulted(core, code, n, t),
         Translated::Passed(d) => entered(core, t, d),
-    }
-}
-
-// PR7 after a call: the segment of the ring's own number, word 0.
-fn stack_base(ring: u64) -> Pointer
-    requires { ⌜ ring ≤ 7 ⌝ }
-    ensures { λ p. ⌜ (as-pointer p ≡ Step.stack-base ring) × Pointer-within p ⌝ }
-{
-    Pointer {
-        ring,
-        segment: SegmentNumber(ring),
-        word: WordNumber(0),
     }
 }
 
@@ -86,7 +72,7 @@ pub fn call(core: Core, code: Descriptor, prs: &mut [u16; 24], memory: &[u64], t
     match check(dbr, memory, ipr, t) {
         Checked::Bad(n) => state::faulted(core, code, n, t),
         Checked::Ring(d, ring) => {
-            state::prs::set_pr(prs, 7, stack_base(ring));
+            state::prs::set_stack_base(prs, ipr.ring, ring);
             let mut p = t;
             p.ring = ring;
             entered(core, p, d)

@@ -124,7 +124,7 @@ pub fn start_answer(core: Core, prs: &[u16; 24], memory: &[u64]) -> u8
     if !are_at_least(core.ipr.ring, prs) {
         return 3;
     }
-    if 4096 < core.dbr.length {
+    if 4096 < core.dbr.length { // of a run's start
         return 4;
     }
     if memory.len() < core.dbr.address as usize + core.dbr.length as usize {

@@ -2,7 +2,7 @@
 use mathlib.Core.Path.{refl}
 use Rattle.model.specs.Run.{single-count}
 use Rattle.model.specs.Cases.{left-by, Holds, about-to-do, about-to, gated, through-pointer, returning, case-12-registers, case-12-words, case-12, pointers-up, through-pointers, case, thirteen, All-hold, Cases-hold}
-use Rattle.model.specs.Readings.{doing, through, with-descriptors, with-low-pr, started, ended, with-start, stored-one, todays-one, loading, delivering, restoring, Readings}
+use Rattle.model.specs.Readings.{doing, through, with-descriptors, holding, started, ended, with-start, stored-one, todays-one, loading, delivering, restoring, Readings}
 use Rattle.model.proofs.Computing.{by-computation}
 
 pub thirteen-cases-hold : Cases-hold thirteen
@@ -46,7 +46,7 @@ thirteen-cases-hold = (
 )
 
 pub readings-hold : Readings
-unfolding by-computation single-count left-by Holds about-to-do about-to through-pointer case-12-registers case-12-words case-12 pointers-up through-pointers doing through with-descriptors with-low-pr started ended with-start stored-one todays-one loading delivering restoring
+unfolding by-computation single-count left-by Holds about-to-do about-to through-pointer case-12-registers case-12-words case-12 pointers-up through-pointers doing through with-descriptors holding started ended with-start stored-one todays-one loading delivering restoring
 readings-hold =
     record {
       empty-file-is-42 = refl;
@@ -76,6 +76,9 @@ readings-hold =
       call-within-the-segment-needs-no-gate = refl;
       same-words-by-another-segment-is-27 = refl;
       new-ring-is-TPR's-below-R2 = refl;
+      PR7-in-PR6's-segment = refl;
+      PR7-in-PR6's-segment-though-TPR-is-above = refl;
+      PR7-in-the-lower-ring's-segment = refl;
       EAP-of-an-unreadable-target = refl;
       TZE-not-taken = refl;
       unreadable-pointer-word-of-TZE-is-22 = refl;

@@ -66,7 +66,12 @@ module _ {W C : ℕ → Type 0} (word : (v : ℕ) → v < 2 ^ 64 → W v) (eight
   unfolding called stack-base new-ring
   call-fits t d g l =
       let x = g .within .ring-within in
-      fit-called h 7 _ _ (record { ring-within = omega arith; segment-within = omega arith; word-within = omega arith })
+      fit-called h 7 _ _
+      (record {
+        ring-within = omega arith;
+        segment-within = cond-holds (λ s. s ≤ 4095) (eqb _ (r .ipr .ring)) (λ _. pr-within h 6 .segment-within) (λ _. omega arith);
+        word-within = omega arith;
+      })
       (record { ring-within = omega arith; segment-within = g .within .segment-within; word-within = g .within .word-within }) (omega arith) l
 
   transfer-fits : (t : Pointer) → Formed r t → t .ring ≡ r .ipr .ring → Fit W C n (with-ipr t r)

@@ -31,9 +31,9 @@ with-descriptors a l =
 abbrev check-says : Machine → Pointer → String → Type 0
 check-says m p s = check-line (check no-delivery m p) ≡ ascii s
 
--- PR0 in ring 0
-unfoldable pub with-low-pr : Machine → Machine
-with-low-pr m = machine (with-pr 0 (pointer 0 0 0) (m .registers)) (m .memory)
+-- another pointer in a PR
+unfoldable pub holding : (number : ℕ) → Pointer → Machine → Machine
+holding k p m = machine (with-pr k p (m .registers)) (m .memory)
 
 unfoldable pub started : List ℕ
 started = ascii "ME" ++ bytes 4 64 ++ ST-record case-12-registers no-delivery
@@ -100,6 +100,10 @@ pub record Readings : Type 0 where
   pub call-within-the-segment-needs-no-gate : Holds (ipr-becomes (doing (by-ipr CALL 0) 4 0 0) (pointer 4 0 0))
   pub same-words-by-another-segment-is-27 : Holds (step-faults (doing (by-pr CALL 1) 4 (segment 2 1 4 4 4 "E V" 0) 0) 27 (pointer 4 1 0))
   pub new-ring-is-TPR's-below-R2 : Holds (ipr-becomes (about-to CALL 4 4 1 (segment 3 4 2 5 5 "E V" 2)) (pointer 4 1 1))
+  -- PR7 AFTER CALL: where the new ring is IPR's, whatever TPR's is, it has PR6's segment and nothing else of PR6; else the new ring's number (02, L6)
+  pub PR7-in-PR6's-segment : Holds (pr-becomes (holding 6 (pointer 5 9 3) (doing (by-ipr CALL 0) 4 0 0)) 7 (pointer 4 9 0))
+  pub PR7-in-PR6's-segment-though-TPR-is-above : Holds (pr-becomes (holding 6 (pointer 5 9 3) (about-to CALL 4 5 1 (segment 3 4 2 4 5 "E V" 2))) 7 (pointer 4 9 0))
+  pub PR7-in-the-lower-ring's-segment : Holds (pr-becomes (holding 6 (pointer 5 9 3) (about-to CALL 4 4 1 (segment 3 4 1 2 5 "E V" 2))) 7 (pointer 2 2 0))
   -- EAP AND A TRANSFER NOT TAKEN ask nothing of the target, yet every pointer word on the way is asked
   pub EAP-of-an-unreadable-target : Holds (pr-becomes (about-to EAP 4 4 2 0) 5 (pointer 4 1 2))
   pub TZE-not-taken : Holds (ipr-becomes (about-to TZE 4 4 2 0) (pointer 4 0 1))
@@ -153,8 +157,8 @@ pub record Readings : Type 0 where
   pub check-within-the-segment-passes : check-says case-12 (pointer 0 4 7) "passes 4\n"
   pub check-behind-the-gates-is-27 : check-says case-12 (pointer 0 5 1) "fault 27 4 5 1\n"
   pub check-of-ring-8-is-2 : check-says case-12 (pointer 8 5 0) "refused 2\n"
-  pub check-of-segment-4096-is-2 : check-says (with-low-pr case-12) (pointer 0 4096 0) "refused 2\n"
-  pub check-with-a-low-PR-is-3 : check-says (with-low-pr case-12) (pointer 0 5 0) "refused 3\n"
+  pub check-of-segment-4096-is-2 : check-says (holding 0 (pointer 0 0 0) case-12) (pointer 0 4096 0) "refused 2\n"
+  pub check-with-a-low-PR-is-3 : check-says (holding 0 (pointer 0 0 0) case-12) (pointer 0 5 0) "refused 3\n"
   pub check-of-a-ring-above-IPR's-is-30 : check-says (about-to CALL 4 4 1 (segment 3 4 5 6 6 "E V" 2)) (pointer 5 1 1) "fault 30 5 1 1\n"
   -- WORD NUMBERS go round from 65,535 to 0
   pub offset-goes-round : Holds (pr-becomes (about-to-do (by-pr EAP 1 + 3) 4 (pointer 4 1 65535) 0 []) 5 (pointer 4 1 2))

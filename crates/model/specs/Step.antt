@@ -28,12 +28,13 @@ chain (suc n) i t f = cond i (read (read-questions t) t (λ d w. tick (chain n (
 unfoldable pub with-operand : Opcode → Instruction → Registers → (Pointer → Program) → Program
 with-operand o i r f = cond (o .operand) (chain 64 (i .i) (first-address i r) f) (f (r .ipr))
 
--- CALL: PR7, the stack base, becomes the new ring, the segment of the same number, word 0
-unfoldable pub stack-base : (ring : ℕ) → Pointer
-stack-base n = record { ring = n; segment = n; word = 0 }
+-- CALL: PR7, the stack base, becomes the new ring, word 0, and the segment of the same number; but where the ring stays as IPR's was,
+-- PR6's segment (02, L6)
+unfoldable pub stack-base : (before ring : ℕ) → (pr6 : Pointer) → Pointer
+stack-base b n p = record { ring = n; segment = cond (eqb n b) (p .segment) n; word = 0 }
 
 unfoldable pub called : (ring : ℕ) → Pointer → Registers → Registers
-called n t r = with-ipr (record { ring = n; segment = t .segment; word = t .word }) (with-pr 7 (stack-base n) r)
+called n t r = with-ipr (record { ring = n; segment = t .segment; word = t .word }) (with-pr 7 (stack-base (r .ipr .ring) n (pr r 6)) r)
 
 -- RETURN: IPR becomes TPR, and each PR's RING is raised to at least that
 unfoldable pub returned : Pointer → Registers → Registers

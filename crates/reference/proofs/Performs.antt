@@ -7,7 +7,7 @@ use lib.Dec.{ltb, leb, eqb, eqb·suc-zero}
 use native.Mathlib.Omega.{arith}
 use lib.ListN.{length, set, take, drop}
 use Rattle.model.specs.Words.{field, Pointer, pointer-in, Instruction}
-use Rattle.model.specs.Registers.{Registers, Machine, machine, dbr-in, with-a, with-dbr, with-ipr, with-prs, with-pr, moved-by, with-ring-at-least, advanced}
+use Rattle.model.specs.Registers.{Registers, Machine, machine, pr, dbr-in, with-a, with-dbr, with-ipr, with-prs, with-pr, moved-by, with-ring-at-least, advanced}
 use Rattle.model.specs.Opcodes.{reads, writes, updates, transfers, calls, returns, loads-dbr, restores}
 use Rattle.model.specs.Questions.{rings-at-least, dbr-fits, may-read, read-questions, part-questions, write-questions, new-ring}
 use Rattle.model.specs.Program.{Program, fail, execute, word-at, absolute-address, use-answer, descriptor-of}
@@ -21,12 +21,13 @@ use Rattle.reference.specs.Step as Step03
 use Rattle.reference.specs.View as View
 use Rattle.reference.proofs.TestLaws.{not-not}
 use Rattle.reference.proofs.ListLaws.{map-set}
+use Rattle.reference.proofs.Address.{pr-view}
 use Rattle.reference.proofs.Start.{rings-not-below, dbr-fits-view}
 use Rattle.reference.proofs.Uses.{words-opened, read-answer, last-of-frame, frame-answer, write-answer, return-answer, transfer-answer, call-answer, or-fault-view}
 
 -- registers changed and machines of both, opened together
 unfoldable pub registers-opened : Unit {0}
-unfolding words-opened machine dbr-in with-a with-dbr with-ipr with-prs with-pr moved-by with-ring-at-least advanced stack-base called returned Step03.with-a Step03.with-ipr Step03.with-pr Step03.with-dbr Step03.onward Step03.machine Step03.on-with Step03.called Step03.returned Step03.place
+unfolding words-opened machine dbr-in with-a with-dbr with-ipr with-prs with-pr moved-by with-ring-at-least advanced stack-base called returned Step03.with-a Step03.with-ipr Step03.with-pr Step03.with-dbr Step03.onward Step03.machine Step03.on-with Step03.stack-segment Step03.called Step03.returned Step03.place
 registers-opened = tt
 
 -- RETURN raises each PR's ring
@@ -48,7 +49,9 @@ with-pr-view k p r i =
 called-view : (n : ℕ) (t : Pointer) (r : Registers) → View.regs (called n t r) ≡ Step03.called n (View.place t) (View.regs r)
 unfolding registers-opened
 called-view n t r =
-    ap (λ (q : Machine03.Regs). Step03.with-ipr (record { ring = n; seg = t .segment; at = t .word }) q) (with-pr-view 7 (stack-base n) r)
+    ap (λ (q : Machine03.Regs). Step03.with-ipr (record { ring = n; seg = t .segment; at = t .word }) q)
+    (with-pr-view 7 (stack-base (r .ipr .ring) n (pr r 6)) r
+    ∙ ap (λ (p : Machine03.Place). Step03.with-pr 7 (record { ring = n; seg = cond (eqb n (r .ipr .ring)) (p .seg) n; at = 0 }) (View.regs r)) (pr-view r 6))
 
 -- questions in front of others, of 03's faults
 pub or-fault-then : (k c : ℕ) (t : Machine03.Place) (x : Step03.Stepped) →

@@ -199,9 +199,13 @@ raised r (p ∷ ps) = record { ring = max r (p .ring); seg = p .seg; at = p .at 
 unfoldable pub returned : Place → Regs → Regs
 returned t r = record { a = r .a; base = r .base; bound = r .bound; ipr = t; prs = raised (t .ring) (r .prs) }
 
+-- amended here alone (02, L6): 03 has PR7 in the segment of the ring's own number after every call
+unfoldable pub stack-segment : (ring : ℕ) → Regs → ℕ
+stack-segment n r = cond (eqb n (r .ipr .ring)) (pr r 6 .seg) n
+
 unfoldable pub called : (ring : ℕ) → Place → Regs → Regs
 called n t r =
-    with-ipr (record { ring = n; seg = t .seg; at = t .at }) (with-pr 7 (record { ring = n; seg = n; at = 0 }) r)
+    with-ipr (record { ring = n; seg = t .seg; at = t .at }) (with-pr 7 (record { ring = n; seg = stack-segment n r; at = 0 }) r)
 
 unfoldable pub pointer-word : Place → ℕ
 pointer-word p = p .at + 65536 * p .seg + 268435456 * p .ring

@@ -1,7 +1,10 @@
 // The PRs where the host's record has them: three numbers each, RING in the lower byte of the first, SEGNO and WORDNO.
 ghost use mathlib.Core.Path.{_≡_};
+ghost use mathlib.Core.Bool.{cond};
 ghost use Prim.Native.Nat.{_<_, _≤_};
+ghost use lib.Dec.{eqb};
 ghost use lib.ListN.{length, set};
+ghost use Rattle.model.specs.Step.{stack-base};
 ghost use Rattle.words.specs.View.{as-pointer};
 ghost use Rattle.state.specs.View.{as-pointers, pr-of};
 use words::pointer::Pointer;
@@ -43,4 +46,26 @@ pub fn set_pr(prs: &mut [u16; 24], number: usize, p: Pointer)
     prs[i] = p.ring as u16;
     prs[i + 1] = p.segment.0 as u16;
     prs[i + 2] = p.word.0 as u16;
+}
+
+// Where the number of a stack's segment stands: PR6's SEGNO where the ring stays as it was, else PR7's RING, once that is the new ring.
+fn stack_place(before: u64, ring: u64) -> usize
+    ensures { λ i. ⌜ (i ≡ cond (eqb ring before) 19 21) × (i < 24) ⌝ }
+{
+    if ring == before {
+        return 19;
+    }
+    21
+}
+
+// PR7 after a call. Its segment's number is copied from its place: a choice between two numbers would take one machine register more in
+// the loop of a run, and cost every step.
+pub fn set_stack_base(prs: &mut [u16; 24], before: u64, ring: u64)
+    requires { ⌜ ring ≤ 7 ⌝ }
+    ensures { λ _. ⌜ as-pointers (now (prs .exit)) ≡ set (as-pointers (now (prs .entry))) 7 (stack-base before ring (pr-of (now (prs .entry)) 6)) ⌝ }
+{
+    let _count = size(prs);
+    prs[21] = ring as u16;
+    prs[22] = prs[stack_place(before, ring)];
+    prs[23] = 0;
 }

@@ -1,5 +1,6 @@
 -- `call` meets its contract. Assumes nothing.
 use mathlib.Core.Path.{refl}
+use Rattle.state.specs.View.{pr-of}
 use Rattle.control.proofs.MoveLaws.{calls, call-refused, call-enters}
 use borrow.Author.Needs.{needs}
 use Rattle.control.proofs.call.Statement.{statement}
@@ -17,11 +18,8 @@ faulted-requires c κs = search (needs, calls)
 enum-known-d : tie.Need-enum-known-d
 enum-known-d c = search (needs, calls)
 
-stack-base-requires : tie.Need-stack-base-requires
-stack-base-requires c κs = (rw (c .before .before .d .given .1) at (c .before .before .before .before .check .ensures)) .2
-
-set-pr-requires : tie.Need-set-pr-requires
-set-pr-requires c κs = search (needs, calls)
+set-stack-base-requires : tie.Need-set-stack-base-requires
+set-stack-base-requires c κs = (rw (c .before .before .d .given .1) at (c .before .before .before .before .check .ensures)) .2
 
 entered-requires : tie.Need-entered-requires
 entered-requires c κs = search (needs, calls)
@@ -30,7 +28,10 @@ returns : tie.Need-returns
 returns c = call-refused _ _ _ _ _ _ (rw (c .before .before .n .given .1) at (c .before .before .before .before .check .ensures)) _ _ _ refl (c .faulted .ensures) refl
 
 returns-2 : tie.Need-returns-2
-returns-2 c = let q = (rw (c .before .before .before .before .before .d .given .1) at (c .before .before .before .before .before .before .before .check .ensures)) in call-enters _ _ _ _ _ _ (q .0) _ _ _ _ _ refl (q .1) (c .before .before .stack-base .ensures .0) (c .before .set-pr .ensures) _ (c .entered .ensures) refl
+unfolding pr-of
+returns-2 c =
+    let q = (rw (c .before .before .before .before .d .given .1) at (c .before .before .before .before .before .before .check .ensures)) in
+    call-enters _ _ _ _ _ _ (q .0) _ _ _ _ refl (q .1) (c .before .set-stack-base .ensures) _ (c .entered .ensures) refl
 
 pub call-spec : {M : Type 1} → statement M
 call-spec =
@@ -40,8 +41,7 @@ call-spec =
     enum-known-n
     faulted-requires
     enum-known-d
-    stack-base-requires
-    set-pr-requires
+    set-stack-base-requires
     entered-requires
     returns
     returns-2)

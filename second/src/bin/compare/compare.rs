@@ -106,12 +106,14 @@ impl Comparer {
         for count in 0..machine.budget {
             let opcode = opcode_at_ipr(&registers, &self.mine);
             let call = if opcode == Some(CALL) { self.check_of_call(&registers)? } else { None };
+            let before = registers;
             let (step_reply, fault) = second::step_and_fault(&mut registers, &mut self.mine);
             let answer = self.lent.step();
             self.agree("kuzhlemor_step", step_reply, answer, &registers)
                 .map_err(|Difference(text)| Difference(format!("step {}: {text}", count + 1)))?;
             if let Some((tpr, check)) = call {
-                self.answers_by_check(tpr, check, fault, registers.ipr)?;
+                answers_by_check(tpr, check, fault, registers.ipr)?;
+                self.reach.call(&before, tpr, check);
             }
             match (fault, step_reply) {
                 (Some(fault), Reply::Spent { .. }) => self.reach.delivered(opcode, fault, step_reply),
@@ -205,26 +207,6 @@ impl Comparer {
             Some(tpr) => self.may_call(registers, tpr).map(|check| Some((tpr, check))),
             None => Ok(None),
         }
-    }
-
-    /// A CALL has met this fault, delivered or not, or has moved IPR here: is that its check?
-    fn answers_by_check(
-        &mut self,
-        tpr: Pointer,
-        check: Check,
-        fault: Option<Fault>,
-        ipr: Pointer,
-    ) -> Result<(), Difference> {
-        let is_answer = match check {
-            Check::Refused { .. } => false,
-            Check::Fault(by_check) => fault == Some(by_check),
-            Check::Passes { ring } => fault.is_none() && ipr == Pointer { ring, ..tpr },
-        };
-        if is_answer {
-            self.reach.call(check);
-            return Ok(());
-        }
-        Err(Difference(format!("a CALL of {tpr:?} with {check:?} gave {fault:?} and IPR {ipr:?}")))
     }
 
     /// Is the library's state now the second implementation's?
@@ -384,6 +366,19 @@ impl Comparer {
             shown(theirs)
         )))
     }
+}
+
+/// A CALL has met this fault, delivered or not, or has moved IPR here: is that its check?
+fn answers_by_check(tpr: Pointer, check: Check, fault: Option<Fault>, ipr: Pointer) -> Result<(), Difference> {
+    let is_answer = match check {
+        Check::Refused { .. } => false,
+        Check::Fault(by_check) => fault == Some(by_check),
+        Check::Passes { ring } => fault.is_none() && ipr == Pointer { ring, ..tpr },
+    };
+    if is_answer {
+        return Ok(());
+    }
+    Err(Difference(format!("a CALL of {tpr:?} with {check:?} gave {fault:?} and IPR {ipr:?}")))
 }
 
 /// Where a step has faulted. It left registers and memory as they were, so that its address can be formed again.

@@ -7,7 +7,8 @@ use crate::random::Random;
 use second::image::ME_LIMIT;
 use second::opcodes::*;
 use second::{
-    calls, delivery, pointers, Dbr, Descriptor, Fault, Image, Instruction, Pointer, PointerWord, Registers, Reply,
+    calls, delivery, pointers, stacks, Dbr, Descriptor, Fault, Image, Instruction, Pointer, PointerWord, Registers,
+    Reply,
 };
 
 /// The instruction's segment: words 16 to 23, all rings.
@@ -550,7 +551,7 @@ fn control(cases: &mut Cases) {
         });
         cases.add(format!("RETURN to ring {ring}"), machine, spent(2));
     }
-    // CALL's stack base is the segment of the new ring's number; that of a ring above R2 is R2's.
+    // CALL's new ring is R2 where that is below; what becomes of PR7 is in `stacks`.
     for ring in 0..8 {
         for r2 in 0..8 {
             let machine = base(ring).with(|m| {
@@ -598,7 +599,15 @@ pub fn pointer_words(comparer: &mut Comparer) -> Result<usize, Box<Failure>> {
 
 /// The library's directed machines for delivered faults and opcode 42, with what they leave; answers how many they are.
 pub fn deliveries(comparer: &mut Comparer) -> Result<usize, Box<Failure>> {
-    let cases = delivery::cases();
+    with_what_they_leave(comparer, delivery::cases())
+}
+
+/// Those for the stack base of CALL.
+pub fn stack_bases(comparer: &mut Comparer) -> Result<usize, Box<Failure>> {
+    with_what_they_leave(comparer, stacks::cases())
+}
+
+fn with_what_they_leave(comparer: &mut Comparer, cases: Vec<delivery::Case>) -> Result<usize, Box<Failure>> {
     let count = cases.len();
     for delivery::Case { run: case, registers: after, memory: memory_after } in cases {
         by_hand(comparer, &case)?;

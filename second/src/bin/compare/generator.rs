@@ -153,6 +153,7 @@ impl Generator {
                 pr.segno = (draw >> 40 & 0xfff) as u16;
             }
         }
+        stack_pointer(random, registers);
         fault_program(random, machine, segments);
         if words > 120 && random.chance(50) {
             chain(random, machine);
@@ -404,6 +405,18 @@ fn descriptor(random: &mut Random, words: usize, table_end: usize) -> Descriptor
         v: true,
         gate: ((draw >> 40 & 0xffff) as usize % (length + 2)) as u16,
     }
+}
+
+/// PR6, whose segment a call within the ring hands on to PR7. It mostly stays as drawn, and so is mostly another than the
+/// ring's own; in some machines it is that of IPR's ring or of a lower one, in some a number at a boundary.
+fn stack_pointer(random: &mut Random, registers: &mut Registers) {
+    let after_the_last = registers.dbr.length.min(4095);
+    let pr6 = &mut registers.pr[6];
+    pr6.segno = match random.below(32) {
+        0..=3 => random.below(usize::from(registers.ipr.ring) + 1) as u16,
+        4 => random.pick(&[0, 255, 256, 2047, 2048, 4094, 4095, after_the_last]),
+        _ => pr6.segno,
+    };
 }
 
 /// The switch, on in half of the machines, with a save segment that mostly will do and a handler's segment that ring 0 may

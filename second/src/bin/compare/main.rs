@@ -113,6 +113,9 @@ fn carry_out(plan: &Plan) -> Result<(), String> {
     let count = directed::deliveries(&mut comparer).map_err(|failure| machine_differs(plan, *failure))?;
     clock.part(&format!("directed: {count} machines for delivered faults and opcode 42, with all that 02 gives"));
 
+    let count = directed::stack_bases(&mut comparer).map_err(|failure| machine_differs(plan, *failure))?;
+    clock.part(&format!("directed: {count} machines for the stack base of CALL, with all that 02 gives"));
+
     let (count, brackets) = directed::checks(&mut comparer).map_err(|failure| machine_differs(plan, *failure))?;
     clock.part(&format!(
         "directed: {count} pointers for the check of CALL, {brackets} over all brackets and rings, with the answers that 02 \

@@ -312,6 +312,34 @@ impl Checks {
     }
 }
 
+/// The CALLs that moved, by what decides on PR7's segment.
+#[derive(Default)]
+struct StackBases {
+    /// The ring as it was: by TPR's, IPR's or above it; by PR6's segment, that of the new ring's number or another.
+    same_ring: [[u64; 2]; 2],
+    /// The ring fell: by the same.
+    lower_ring: [[u64; 2]; 2],
+}
+
+impl StackBases {
+    fn moved(&mut self, before: &Registers, tpr: Pointer, new_ring: u8) {
+        let counts = if new_ring == before.ipr.ring { &mut self.same_ring } else { &mut self.lower_ring };
+        let is_above = tpr.ring > before.ipr.ring;
+        let is_elsewhere = before.pr[6].segno != u16::from(new_ring);
+        counts[usize::from(is_above)][usize::from(is_elsewhere)] += 1;
+    }
+
+    fn print(&self, missed: &mut Vec<String>) {
+        for (ring, counts) in [("ring as it was", self.same_ring), ("ring falls", self.lower_ring)] {
+            let cells = ["", ", TPR's above IPR's"].into_iter().zip(counts).flat_map(|(tpr, [own, elsewhere])| {
+                let name = |pr6: &str| format!("{ring}{tpr}, PR6 {pr6}");
+                [(name("in its segment"), own), (name("elsewhere"), elsewhere)]
+            });
+            print_row(cells, missed);
+        }
+    }
+}
+
 /// The questions of a stored image.
 const STORED_QUESTIONS: [u8; 7] = [41, 42, 43, 44, 2, 3, 4];
 
@@ -399,6 +427,7 @@ pub struct Reach {
     images: Runs,
     conversions: Conversions,
     checks: Checks,
+    stack_bases: StackBases,
     changed_memory: u64,
     changed_descriptors: u64,
     changed_dbr: u64,
@@ -420,6 +449,7 @@ impl Reach {
             images: Runs::default(),
             conversions: Conversions::default(),
             checks: Checks::new(),
+            stack_bases: StackBases::default(),
             changed_memory: 0,
             changed_descriptors: 0,
             changed_dbr: 0,
@@ -499,12 +529,15 @@ impl Reach {
         self.checks.answered(registers, words, pointer, check);
     }
 
-    /// A CALL that answered by its check.
-    pub fn call(&mut self, check: Check) {
+    /// A CALL that answered by its check, with the registers before it.
+    pub fn call(&mut self, before: &Registers, tpr: Pointer, check: Check) {
         match check {
             Check::Refused { .. } => {}
             Check::Fault(Fault { number, .. }) => self.checks.calls[usize::from(number)] += 1,
-            Check::Passes { .. } => self.checks.moved += 1,
+            Check::Passes { ring } => {
+                self.checks.moved += 1;
+                self.stack_bases.moved(before, tpr, ring);
+            }
         }
     }
 
@@ -531,6 +564,8 @@ impl Reach {
         self.conversions.print(&mut missed);
         println!("pointers through the check of CALL:");
         self.checks.print(&mut missed);
+        println!("CALLs that moved, by what decides on PR7's segment:");
+        self.stack_bases.print(&mut missed);
         missed
     }
 }
