@@ -12,6 +12,7 @@ pub mod Run
 pub mod Delivered
 pub mod Check
 pub mod Checked
+pub mod Brackets
 pub mod Answers
 pub mod Ends
 pub mod Image
