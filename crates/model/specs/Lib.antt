@@ -13,6 +13,7 @@ pub mod Delivered
 pub mod Check
 pub mod Checked
 pub mod Brackets
+pub mod Bracketing
 pub mod Answers
 pub mod Ends
 pub mod Image
