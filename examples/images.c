@@ -201,7 +201,7 @@ static machine two_stacks(void)
     return m;
 }
 
-/* A formula of six words that calls a helper within its own ring, which puts the secret on the stack, at PR7. The caller's PR6 is
+/* A formula that calls a helper within its own ring, which puts the secret on the stack, at PR7. The caller's PR6 is
  * in the laboratory's segment 5. Back there the laboratory looks into it: with a word there it ends the run from its word 4, else
  * from its word 5. */
 static machine formula_with_a_helper(void)
