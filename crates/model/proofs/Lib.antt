@@ -2,6 +2,7 @@
 pub mod BranchLaws
 pub mod ListLaws
 pub mod WordLaws
+pub mod WriteLaws
 pub mod QuestionLaws
 pub mod TableLaws
 pub mod ProgramLaws

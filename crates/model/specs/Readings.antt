@@ -11,7 +11,8 @@ use Rattle.model.specs.Opcodes.{Opcode, LDA, STA, AOS, EAP, TRA, TZE, CA
 use Rattle.model.specs.Deliver.{step-with}
 use Rattle.model.specs.Check.{check}
 use Rattle.model.specs.Listing.{ascii, check-line}
-use Rattle.model.specs.Notation.{pointer, segment, by-ipr, by-pr, indirect-by-pr, indirect-word, bytes, stored-ST, ST-record, WD-records, image-with, image-of}
+use Rattle.model.specs.Notation.{pointer, segment, by-ipr, by-pr, indirect-by-pr, indirect-word, WD-records, image-with, image-of}
+use Rattle.model.specs.Write.{bytes, stored-ST, ST-record}
 use Rattle.model.specs.Cases.{step-faults, ipr-becomes, pr-becomes, a-becomes, word-becomes, step-counts, run-lists, delivery-lists, image-prints, image-converts, left-by, Holds, about-to-do, about-to, through-pointer, case-12-registers, case-12, pointers-up, through-pointers}
 
 -- the instruction and one word in segment 1

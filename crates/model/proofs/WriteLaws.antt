@@ -1,0 +1,42 @@
+-- How long the parts of a written image are, and a number's bytes with the last apart. Assumes nothing.
+use mathlib.Core.Path.{_≡_, refl, sym, ap, ap₂, _∙_}
+use mathlib.Core.List.{List, [], _∷_, _++_}
+use Prim.Native.Nat.{ℕ, zero, suc, _+_, _*_, _/_, _%_, _^_, _≤_, _<_}
+use native.Mathlib.Nat.{pow-suc, one-le-pow}
+use native.Mathlib.Omega.{arith}
+use lib.ListN.{length, length-append}
+use Rattle.model.specs.Words.{Pointer}
+use Rattle.model.specs.Registers.{Registers, Delivery}
+use Rattle.model.specs.Listing.{ascii}
+use Rattle.model.specs.Write.{bytes, pointer-bytes, pointers-bytes, ME-record, stored-ST, delivery-bytes, ST-record, WD-record, RN-record}
+
+pub length-bytes : (n v : ℕ) → length (bytes n v) ≡ n
+unfolding bytes
+length-bytes zero v = refl
+length-bytes (suc n) v = ap suc (length-bytes n v)
+
+pub length-pointer-bytes : (p : Pointer) → length (pointer-bytes p) ≡ 5
+unfolding pointer-bytes bytes
+length-pointer-bytes p = refl
+
+pub length-pointers-bytes : (ps : List Pointer) → length (pointers-bytes ps) ≡ 5 * length ps
+unfolding pointers-bytes
+length-pointers-bytes [] = refl
+length-pointers-bytes (p ∷ ps) =
+    length-append (pointer-bytes p) (pointers-bytes ps) ∙ ap₂ _+_ (length-pointer-bytes p) (length-pointers-bytes ps) ∙ omega arith
+
+pub length-ME : (n : ℕ) → length (ME-record n) ≡ 6
+unfolding ME-record ascii bytes
+length-ME n = refl
+
+pub length-RN : (b : ℕ) → length (RN-record b) ≡ 6
+unfolding RN-record ascii bytes
+length-RN b = refl
+
+pub length-WD : (a w : ℕ) → length (WD-record a w) ≡ 14
+unfolding WD-record ascii bytes
+length-WD a w = refl
+
+pub length-delivery-bytes : (v : Delivery) → length (delivery-bytes v) ≡ 5
+unfolding delivery-bytes bytes
+length-delivery-bytes v = refl
