@@ -26,6 +26,8 @@ pub mod FrontLaws
 pub mod OverwrittenLaws
 pub mod OnceLaws
 pub mod ConvertLaws
+pub mod BracketLaws
+pub mod BracketingLaws
 pub mod ListingLaws
 pub mod TickLaws
 pub mod CountedLaws

@@ -1,0 +1,169 @@
+-- The statements of Bracketing. Assumes nothing.
+use mathlib.Core.Path.{_≡_, refl, sym, ap, _∙_, subst}
+use mathlib.Core.Bool.{Bool, true, false, _&&_, not, cond}
+use mathlib.Core.List.{List, [], _∷_}
+use Prim.Native.Nat.{ℕ, zero, suc, _+_, _*_, _/_, _%_, _^_, _≤_, _<_}
+use native.Mathlib.Omega.{arith}
+use lib.Dec.{eqb}
+use lib.ListN.{length, getD, set}
+use borrow.Author.Tests.{eqb-true, eq-eqb, ne-eqb}
+use Rattle.model.specs.Words.{field, on, descriptor-in}
+use Rattle.model.specs.Registers.{Dbr}
+use Rattle.model.specs.Questions.{all}
+use Rattle.model.specs.Brackets.{Row, in-row, rows-of, row-fits, table-fits, one-row, segments-questions, table-questions, flag-bit, bracket-bits, with-brackets, by-row, with-rows, set-brackets}
+use Rattle.model.specs.Bracketing.{Refused-table-writes-nothing, Fields-of-row, Set-by-row, Table-sets-fields, Table-keeps-others, Table-keeps-size, Permuted, same, behind, exchanged, and-then, Order-of-rows-free}
+use Rattle.model.proofs.BranchLaws.{by-equality, cond-rel, and-left}
+use Rattle.model.proofs.QuestionLaws.{then-ask-yes, then-ask-same}
+use Rattle.model.proofs.BracketLaws.{Row-within, row-within, all-rows-of, Only-row, one-row-only, each-segment-passes, Accepted, accepted, flag-bit-within, length-with-rows, with-rows-other, with-rows-own, refused-same, accepted-written}
+
+pub refused-table-writes-nothing : Refused-table-writes-nothing
+refused-table-writes-nothing m b rows h = refused-same m b rows h
+
+-- BY FIELDS. A flag's bit is on just where the flag is
+flag-on : (n x : ℕ) → x ≡ flag-bit n → eqb x 1 ≡ not (eqb n 0)
+unfolding flag-bit
+flag-on zero x e = ne-eqb x 1 (λ h. let z : x ≡ 0 = e in omega arith)
+flag-on (suc n) x e =
+    let q = ne-eqb (suc n) 0 (λ h. omega arith) in eq-eqb x 1 (e ∙ ap (λ t. cond t 0 1) q) ∙ ap not (sym q)
+
+module _ (l : ℕ) (r : Row) (w : ℕ) (h : Row-within l r) where
+  fields-of-row : Fields-of-row r (descriptor-in w) (descriptor-in (with-brackets r w))
+  unfolding descriptor-in field on with-brackets bracket-bits
+  fields-of-row =
+      let x = h .r1-within in
+      let y = h .r2-within in
+      let z = h .r3-within in
+      let f = flag-bit-within (r .read) in
+      let g = flag-bit-within (r .write) in
+      let k = flag-bit-within (r .execute) in
+      record {
+        r1-set = omega arith;
+        r2-set = omega arith;
+        r3-set = omega arith;
+        read-set = flag-on (r .read) _ (omega arith);
+        write-set = flag-on (r .write) _ (omega arith);
+        execute-set = flag-on (r .execute) _ (omega arith);
+        address-kept = omega arith;
+        length-kept = omega arith;
+        valid-kept = ap (λ v. eqb v 1) (omega arith);
+        gate-kept = omega arith;
+      }
+
+-- EACH SEGMENT has one row, and its descriptor is by it
+module _ (m : List ℕ) (b : Dbr) (rows : List Row) (s : ℕ) (x : Accepted (length m) b rows) (below : s < b .length) (one : Only-row (rows-of s rows)) where
+  its-row-fits : row-fits (b .length) (one .row) ≡ true
+  unfolding all
+  its-row-fits = and-left _ true (ap (all (row-fits (b .length))) (sym (one .only)) ∙ all-rows-of (row-fits (b .length)) s rows (x .rows-fit))
+
+  word-by-its-row : getD (with-rows (b .length) 0 rows (b .address) m) (b .address + s) 0 ≡ with-brackets (one .row) (getD m (b .address + s) 0)
+  unfolding by-row
+  word-by-its-row =
+      with-rows-own (b .length) 0 rows (b .address) m s (omega arith) (omega arith) (let h = x .within-memory in omega arith)
+      ∙ ap (λ rs. by-row rs (getD m (b .address + s) 0)) (one .only)
+
+pub table-sets-fields : Table-sets-fields
+table-sets-fields m b rows e s below =
+    let x = accepted (length m) b rows e in
+    let one = one-row-only (rows-of s rows) (each-segment-passes (b .length) 0 rows (x .segments-pass) s (omega arith) (omega arith)) in
+    let w = getD m (b .address + s) 0 in
+    record {
+      row = one .row;
+      only = one .only;
+      fields =
+          subst (λ z. Fields-of-row (one .row) (descriptor-in w) (descriptor-in z))
+          (sym (ap (λ k. getD k (b .address + s) 0) (accepted-written m b rows e) ∙ word-by-its-row m b rows s x below one))
+          (fields-of-row (b .length) (one .row) w (row-within (b .length) (one .row) (its-row-fits m b rows s x below one)));
+    }
+
+pub table-keeps-others : Table-keeps-others
+table-keeps-others m b rows x h =
+    by-equality (table-questions (length m) b rows) 0
+    (λ e. ap (λ k. getD k x 0) (accepted-written m b rows e) ∙ with-rows-other (b .length) 0 rows (b .address) m x (λ p q. h (omega arith) (omega arith)))
+    (λ d. ap (λ k. getD k x 0) (refused-same m b rows d))
+
+pub table-keeps-size : Table-keeps-size
+table-keeps-size m b rows =
+    by-equality (table-questions (length m) b rows) 0
+    (λ e. ap length (accepted-written m b rows e) ∙ length-with-rows (b .length) 0 rows (b .address) m) (λ d. ap length (refused-same m b rows d))
+
+-- THE ORDER OF ROWS: of permuted rows the count, each test and the segment's own row are the same
+length-permuted : {xs ys : List Row} → Permuted xs ys → length xs ≡ length ys
+length-permuted same = refl
+length-permuted (behind x p) = ap suc (length-permuted p)
+length-permuted (exchanged x y) = refl
+length-permuted (and-then p q) = length-permuted p ∙ length-permuted q
+
+and-exchanged : (a b c : Bool) → (a && (b && c)) ≡ (b && (a && c))
+and-exchanged true b c = refl
+and-exchanged false true c = refl
+and-exchanged false false c = refl
+
+all-permuted : (f : Row → Bool) {xs ys : List Row} → Permuted xs ys → all f xs ≡ all f ys
+unfolding all
+all-permuted f same = refl
+all-permuted f (behind x p) = ap (λ t. f x && t) (all-permuted f p)
+all-permuted f (exchanged {xs} x y) = and-exchanged (f x) (f y) (all f xs)
+all-permuted f (and-then p q) = all-permuted f p ∙ all-permuted f q
+
+chosen-exchanged : (a b : Bool) (x y : Row) (xs : List Row) →
+    Permuted (cond a (x ∷ cond b (y ∷ xs) xs) (cond b (y ∷ xs) xs)) (cond b (y ∷ cond a (x ∷ xs) xs) (cond a (x ∷ xs) xs))
+chosen-exchanged true true x y xs = exchanged x y
+chosen-exchanged true false x y xs = same
+chosen-exchanged false true x y xs = same
+chosen-exchanged false false x y xs = same
+
+rows-of-permuted : (s : ℕ) {xs ys : List Row} → Permuted xs ys → Permuted (rows-of s xs) (rows-of s ys)
+unfolding rows-of
+rows-of-permuted s same = same
+rows-of-permuted s (behind x p) = cond-rel Permuted {b = in-row s x} refl (λ _. behind x (rows-of-permuted s p)) (λ _. rows-of-permuted s p)
+rows-of-permuted s (exchanged {xs} x y) = chosen-exchanged (in-row s x) (in-row s y) x y (rows-of s xs)
+rows-of-permuted s (and-then p q) = and-then (rows-of-permuted s p) (rows-of-permuted s q)
+
+one-row-by-count : (xs ys : List Row) → length xs ≡ length ys → one-row xs ≡ one-row ys
+unfolding one-row
+one-row-by-count [] [] e = refl
+one-row-by-count [] (y ∷ ys) e = absurd (omega arith)
+one-row-by-count (x ∷ xs) [] e = absurd (omega arith)
+one-row-by-count (x ∷ []) (y ∷ []) e = refl
+one-row-by-count (x ∷ []) (y ∷ z ∷ ys) e = absurd (omega arith)
+one-row-by-count (x ∷ z ∷ xs) (y ∷ []) e = absurd (omega arith)
+one-row-by-count (x ∷ z ∷ xs) (y ∷ u ∷ ys) e = refl
+
+by-row-permuted : (w : ℕ) {xs ys : List Row} → Permuted xs ys → length xs ≡ 1 → by-row xs w ≡ by-row ys w
+unfolding by-row
+by-row-permuted w same e = refl
+by-row-permuted w (behind x p) e = refl
+by-row-permuted w (exchanged x y) e = absurd (omega arith)
+by-row-permuted w (and-then p q) e = by-row-permuted w p e ∙ by-row-permuted w q (sym (length-permuted p) ∙ e)
+
+module _ {rows others : List Row} (p : Permuted rows others) where
+  one-row-permuted : (s : ℕ) → one-row (rows-of s rows) ≡ one-row (rows-of s others)
+  one-row-permuted s = one-row-by-count _ _ (length-permuted (rows-of-permuted s p))
+
+  segments-permuted : (n s : ℕ) → segments-questions n s rows ≡ segments-questions n s others
+  unfolding segments-questions
+  segments-permuted zero s = refl
+  segments-permuted (suc n) s = then-ask-same (one-row-permuted s) (λ _. segments-permuted n (suc s))
+
+  questions-permuted : (n : ℕ) (b : Dbr) → table-questions n b rows ≡ table-questions n b others
+  unfolding table-questions table-fits
+  questions-permuted n b = rw (length-permuted p, all-permuted (row-fits (b .length)) p, segments-permuted (b .length) 0)
+
+  with-rows-permuted : (n s a : ℕ) (m : List ℕ) → segments-questions n s rows ≡ 0 → with-rows n s rows a m ≡ with-rows n s others a m
+  unfolding with-rows segments-questions
+  with-rows-permuted zero s a m e = refl
+  with-rows-permuted (suc n) s a m e =
+      let passed = then-ask-yes (one-row (rows-of s rows)) (segments-questions n (suc s) rows) e in
+      let one = ap length (one-row-only (rows-of s rows) (passed .0) .only) in
+      with-rows-permuted n (suc s) a _ (passed .1)
+      ∙ ap (λ v. with-rows n (suc s) others a (set m (a + s) v)) (by-row-permuted (getD m (a + s) 0) (rows-of-permuted s p) one)
+
+pub order-of-rows-free : Order-of-rows-free
+unfolding set-brackets
+order-of-rows-free m b rows others p =
+    let q = questions-permuted p (length m) b in
+    let k =
+    cond-rel _≡_ (ap (λ z. eqb z 0) q)
+    (λ e. with-rows-permuted p (b .length) 0 (b .address) m (accepted (length m) b rows (eqb-true _ _ e) .segments-pass)) (λ _. refl)
+    in
+    λ i. record { answer = q i; memory = k i }
