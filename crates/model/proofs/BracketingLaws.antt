@@ -40,9 +40,9 @@ module _ (l : ℕ) (r : Row) (w : ℕ) (h : Row-within l r) where
         r1-set = omega arith;
         r2-set = omega arith;
         r3-set = omega arith;
-        read-set = flag-on (r .read) _ (omega arith);
-        write-set = flag-on (r .write) _ (omega arith);
-        execute-set = flag-on (r .execute) _ (omega arith);
+        read-set = flag-on (r .read) (field 49 1 (with-brackets r w)) (omega arith);
+        write-set = flag-on (r .write) (field 50 1 (with-brackets r w)) (omega arith);
+        execute-set = flag-on (r .execute) (field 51 1 (with-brackets r w)) (omega arith);
         address-kept = omega arith;
         length-kept = omega arith;
         valid-kept = ap (λ v. eqb v 1) (omega arith);
