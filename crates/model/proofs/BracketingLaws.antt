@@ -36,6 +36,7 @@ module _ (l : ℕ) (r : Row) (w : ℕ) (h : Row-within l r) where
       let f = flag-bit-within (r .read) in
       let g = flag-bit-within (r .write) in
       let k = flag-bit-within (r .execute) in
+      let same-bit : field 52 1 (with-brackets r w) ≡ field 52 1 w = omega arith in
       record {
         r1-set = omega arith;
         r2-set = omega arith;
@@ -45,7 +46,7 @@ module _ (l : ℕ) (r : Row) (w : ℕ) (h : Row-within l r) where
         execute-set = flag-on (r .execute) (field 51 1 (with-brackets r w)) (omega arith);
         address-kept = omega arith;
         length-kept = omega arith;
-        valid-kept = ap (λ v. eqb v 1) (omega arith);
+        valid-kept = ap (λ v. eqb v 1) same-bit;
         gate-kept = omega arith;
       }
 
