@@ -14,7 +14,7 @@ use Rattle.model.specs.Brackets.{Row, in-row, rows-of, row-fits, table-f
 use Rattle.model.specs.Bracketing.{Refused-table-writes-nothing, Fields-of-row, Set-by-row, Table-sets-fields, Table-keeps-others, Table-keeps-size, Permuted, same, behind, exchanged, and-then, Order-of-rows-free}
 use Rattle.model.proofs.BranchLaws.{by-equality, cond-rel, and-left}
 use Rattle.model.proofs.QuestionLaws.{then-ask-yes, then-ask-same}
-use Rattle.model.proofs.BracketLaws.{Row-within, row-within, all-rows-of, Only-row, one-row-only, each-segment-passes, Accepted, accepted, flag-bit-within, length-with-rows, with-rows-other, with-rows-own, refused-same, accepted-written}
+use Rattle.model.proofs.BracketLaws.{Row-within, row-within, all-rows-of, Only-row, one-row-only, each-segment-passes, Accepted, accepted, flag-bit-within, bracket-bits-within, length-with-rows, with-rows-other, with-rows-own, refused-same, accepted-written}
 
 pub refused-table-writes-nothing : Refused-table-writes-nothing
 refused-table-writes-nothing m b rows h = refused-same m b rows h
@@ -26,28 +26,104 @@ flag-on zero x e = ne-eqb x 1 (λ h. let z : x ≡ 0 = e in omega arith)
 flag-on (suc n) x e =
     let q = ne-eqb (suc n) 0 (λ h. omega arith) in eq-eqb x 1 (e ∙ ap (λ t. cond t 0 1) q) ∙ ap not (sym q)
 
+-- a word with other bits 40 to 51: those are what was put there, the fields around them stay
+abbrev with-bits : (bits word : ℕ) → ℕ
+with-bits b w = w % 2 ^ 40 + 2 ^ 40 * b + 2 ^ 52 * (w / 2 ^ 52)
+
+module _ (b w : ℕ) (h : b < 2 ^ 12) where
+  bits-put : field 40 12 (with-bits b w) ≡ b
+  unfolding field
+  bits-put = omega arith
+
+  address-same : field 0 24 (with-bits b w) ≡ field 0 24 w
+  unfolding field
+  address-same = omega arith
+
+  length-same : field 24 16 (with-bits b w) ≡ field 24 16 w
+  unfolding field
+  length-same = omega arith
+
+  valid-same : field 52 1 (with-bits b w) ≡ field 52 1 w
+  unfolding field
+  valid-same = omega arith
+
+  gate-same : field 53 11 (with-bits b w) ≡ field 53 11 w
+  unfolding field
+  gate-same = omega arith
+
+-- a field within them is a field of the bits
+module _ (w b : ℕ) (e : field 40 12 w ≡ b) where
+  r1-in-bits : field 40 3 w ≡ b % 2 ^ 3
+  unfolding field
+  r1-in-bits = omega arith
+
+  r2-in-bits : field 43 3 w ≡ b / 2 ^ 3 % 2 ^ 3
+  unfolding field
+  r2-in-bits = omega arith
+
+  r3-in-bits : field 46 3 w ≡ b / 2 ^ 6 % 2 ^ 3
+  unfolding field
+  r3-in-bits = omega arith
+
+  read-in-bits : field 49 1 w ≡ b / 2 ^ 9 % 2
+  unfolding field
+  read-in-bits = omega arith
+
+  write-in-bits : field 50 1 w ≡ b / 2 ^ 10 % 2
+  unfolding field
+  write-in-bits = omega arith
+
+  execute-in-bits : field 51 1 w ≡ b / 2 ^ 11 % 2
+  unfolding field
+  execute-in-bits = omega arith
+
+-- and the bits of a row are its numbers
+module _ (x y z f g k : ℕ) (x-within : x ≤ 7) (y-within : y ≤ 7) (z-within : z ≤ 7) (f-within : f ≤ 1) (g-within : g ≤ 1) (k-within : k ≤ 1) where
+  abbrev row-bits : ℕ
+  row-bits = x + 8 * y + 64 * z + 512 * f + 1024 * g + 2048 * k
+
+  r1-of-bits : row-bits % 2 ^ 3 ≡ x
+  r1-of-bits = omega arith
+
+  r2-of-bits : row-bits / 2 ^ 3 % 2 ^ 3 ≡ y
+  r2-of-bits = omega arith
+
+  r3-of-bits : row-bits / 2 ^ 6 % 2 ^ 3 ≡ z
+  r3-of-bits = omega arith
+
+  read-of-bits : row-bits / 2 ^ 9 % 2 ≡ f
+  read-of-bits = omega arith
+
+  write-of-bits : row-bits / 2 ^ 10 % 2 ≡ g
+  write-of-bits = omega arith
+
+  execute-of-bits : row-bits / 2 ^ 11 % 2 ≡ k
+  execute-of-bits = omega arith
+
 module _ (l : ℕ) (r : Row) (w : ℕ) (h : Row-within l r) where
   fields-of-row : Fields-of-row r (descriptor-in w) (descriptor-in (with-brackets r w))
-  unfolding descriptor-in field on with-brackets bracket-bits
+  unfolding descriptor-in on with-brackets bracket-bits
   fields-of-row =
-      let x = h .r1-within in
-      let y = h .r2-within in
+      let b = bracket-bits r in
+      let small = bracket-bits-within l r h in
+      let e = bits-put b w small in
+      let x : r .r1 ≤ 7 = let p = h .r1-within in let q = h .r2-within in let t = h .r3-within in omega arith in
+      let y : r .r2 ≤ 7 = let q = h .r2-within in let t = h .r3-within in omega arith in
       let z = h .r3-within in
       let f = flag-bit-within (r .read) in
       let g = flag-bit-within (r .write) in
       let k = flag-bit-within (r .execute) in
-      let same-bit : field 52 1 (with-brackets r w) ≡ field 52 1 w = omega arith in
       record {
-        r1-set = omega arith;
-        r2-set = omega arith;
-        r3-set = omega arith;
-        read-set = flag-on (r .read) (field 49 1 (with-brackets r w)) (omega arith);
-        write-set = flag-on (r .write) (field 50 1 (with-brackets r w)) (omega arith);
-        execute-set = flag-on (r .execute) (field 51 1 (with-brackets r w)) (omega arith);
-        address-kept = omega arith;
-        length-kept = omega arith;
-        valid-kept = ap (λ v. eqb v 1) same-bit;
-        gate-kept = omega arith;
+        r1-set = r1-in-bits _ _ e ∙ r1-of-bits _ _ _ _ _ _ x y z f g k;
+        r2-set = r2-in-bits _ _ e ∙ r2-of-bits _ _ _ _ _ _ x y z f g k;
+        r3-set = r3-in-bits _ _ e ∙ r3-of-bits _ _ _ _ _ _ x y z f g k;
+        read-set = flag-on (r .read) _ (read-in-bits _ _ e ∙ read-of-bits _ _ _ _ _ _ x y z f g k);
+        write-set = flag-on (r .write) _ (write-in-bits _ _ e ∙ write-of-bits _ _ _ _ _ _ x y z f g k);
+        execute-set = flag-on (r .execute) _ (execute-in-bits _ _ e ∙ execute-of-bits _ _ _ _ _ _ x y z f g k);
+        address-kept = address-same b w small;
+        length-kept = length-same b w small;
+        valid-kept = ap (λ v. eqb v 1) (valid-same b w small);
+        gate-kept = gate-same b w small;
       }
 
 -- EACH SEGMENT has one row, and its descriptor is by it
