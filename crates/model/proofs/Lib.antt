@@ -20,6 +20,7 @@ pub mod CheckedLaws
 pub mod EndsLaws
 pub mod CountLaws
 pub mod ImageLaws
+pub mod WrittenLaws
 pub mod CutLaws
 pub mod LastLaws
 pub mod FrontLaws

@@ -40,3 +40,11 @@ length-WD a w = refl
 pub length-delivery-bytes : (v : Delivery) → length (delivery-bytes v) ≡ 5
 unfolding delivery-bytes bytes
 length-delivery-bytes v = refl
+
+pub length-stored-ST : (r : Registers) → length (stored-ST r) ≡ 21 + 5 * length (r .prs)
+unfolding stored-ST ascii bytes pointer-bytes
+length-stored-ST r = let h = length-pointers-bytes (r .prs) in omega arith
+
+pub length-ST : (r : Registers) (v : Delivery) → length (ST-record r v) ≡ 26 + 5 * length (r .prs)
+unfolding ST-record
+length-ST r v = length-append (stored-ST r) (delivery-bytes v) ∙ ap₂ _+_ (length-stored-ST r) (length-delivery-bytes v) ∙ omega arith
