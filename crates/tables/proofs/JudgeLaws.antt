@@ -1,18 +1,18 @@
 -- 53 to 55 asked row by row and segment by segment. Assumes nothing.
 use mathlib.Core.Path.{_≡_, refl, sym, ap, _∙_}
-use mathlib.Core.Bool.{Bool, true, false, _&&_}
+use mathlib.Core.Bool.{Bool, true, false, _&&_, not}
 use mathlib.Core.List.{List, [], _∷_}
 use Prim.Native.Nat.{ℕ, zero, suc, _+_, _-_, _≤_, _<_}
 use native.Mathlib.Numerals.{add-one}
 use native.Mathlib.Omega.{arith}
 use lib.Dec.{leb}
 use lib.ListN.{length, getD, drop, length-map}
-use borrow.Author.Tests.{le-leb, lt-leb}
+use borrow.Author.Tests.{not-true, not-false, le-leb, lt-leb}
 use Rattle.model.specs.Questions.{all, then-ask}
 use Rattle.model.specs.Brackets.{Row, in-row, rows-of, row-fits, table-fits, one-row, segments-questions}
 use Rattle.model.proofs.BranchLaws.{and-both}
 use Rattle.tables.specs.View.{as-row, as-rows}
-use Rattle.tables.specs.Count.{with-more}
+use Rattle.tables.specs.Next.{Next-row}
 use Rattle.tables.proofs.RowLaws.{row-is-its, row-is-not-its, all-in-front, all-of-none, none-of-none}
 
 fits-by-rows : (l : ℕ) (xs : List (List ℕ)) → length xs ≤ 32 → table-fits l (as-rows xs) ≡ all (row-fits l) (as-rows xs)
@@ -21,11 +21,11 @@ fits-by-rows l xs h = ap (λ n. leb n 32 && all (row-fits l) (as-rows xs)) (leng
 
 -- 53: what the rows still to come say is what all say
 module _ (l i : ℕ) (xs : List (List ℕ)) (at-most : length xs ≤ 32) (z : all (row-fits l) (as-rows (drop i xs)) ≡ all (row-fits l) (as-rows xs)) where
-  pub row-passes : i < length xs → row-fits l (as-row (getD xs i [])) ≡ true → all (row-fits l) (as-rows (drop (i + 1) xs)) ≡ all (row-fits l) (as-rows xs)
-  row-passes h e = sym (all-in-front i xs (row-fits l) h ∙ ap (λ b. b && all (row-fits l) (as-rows (drop (i + 1) xs))) e) ∙ z
+  pub row-passes : {b : Bool} → i < length xs → b ≡ row-fits l (as-row (getD xs i [])) → not b ≡ false → all (row-fits l) (as-rows (drop (i + 1) xs)) ≡ all (row-fits l) (as-rows xs)
+  row-passes h e t = sym (all-in-front i xs (row-fits l) h ∙ ap (λ b. b && all (row-fits l) (as-rows (drop (i + 1) xs))) (sym e ∙ not-false _ t)) ∙ z
 
-  pub row-fails : i < length xs → row-fits l (as-row (getD xs i [])) ≡ false → false ≡ table-fits l (as-rows xs)
-  row-fails h e = sym (all-in-front i xs (row-fits l) h ∙ ap (λ b. b && all (row-fits l) (as-rows (drop (i + 1) xs))) e) ∙ z ∙ sym (fits-by-rows l xs at-most)
+  pub row-fails : {b : Bool} → i < length xs → b ≡ row-fits l (as-row (getD xs i [])) → not b ≡ true → false ≡ table-fits l (as-rows xs)
+  row-fails h e t = sym (all-in-front i xs (row-fits l) h ∙ ap (λ b. b && all (row-fits l) (as-rows (drop (i + 1) xs))) (sym e ∙ not-true _ t)) ∙ z ∙ sym (fits-by-rows l xs at-most)
 
   pub rows-pass : length xs ≤ i → true ≡ table-fits l (as-rows xs)
   rows-pass h = sym (all-of-none i xs (row-fits l) h) ∙ z ∙ sym (fits-by-rows l xs at-most)
@@ -36,40 +36,43 @@ too-many-rows l xs h = sym (ap (λ n. leb n 32 && all (row-fits l) (as-rows xs))
 
 pub ruleset fits-laws = (row-passes, row-fails, rows-pass, too-many-rows)
 
--- 54 AND 55 of one segment
-module _ (s i n : ℕ) (xs : List (List ℕ)) (z : with-more n (rows-of s (as-rows (drop i xs))) ≡ one-row (rows-of s (as-rows xs))) where
-  pub second-row : i < length xs → in-row s (as-row (getD xs i [])) ≡ true → n ≡ 0 → 55 ≡ one-row (rows-of s (as-rows xs))
-  unfolding with-more
-  second-row h e q = sym (ap (λ k. with-more k (rows-of s (as-rows (drop i xs)))) q ∙ ap (with-more 0) (row-is-its i xs s h e)) ∙ z
+-- THE NEXT ROW that a segment is in
+module _ (s from i : ℕ) (xs : List (List ℕ)) (z : rows-of s (as-rows (drop from xs)) ≡ rows-of s (as-rows (drop i xs))) where
+  pub row-found : {b : Bool} → i < length xs → b ≡ in-row s (as-row (getD xs i [])) → b ≡ true → Next-row s xs from i
+  row-found h e t = record { at-most = omega arith; none-before = z; in-it = λ _. sym e ∙ t }
 
-  first-row : (k : ℕ) (r : Row) (rs : List Row) → (k ≡ 0 → ⊥) → with-more k (r ∷ rs) ≡ with-more 0 rs
-  unfolding with-more one-row
-  first-row zero r rs d = absurd (d refl)
-  first-row (suc k) r [] d = refl
-  first-row (suc k) r (q ∷ rs) d = refl
+  pub row-passed : {b : Bool} → i < length xs → b ≡ in-row s (as-row (getD xs i [])) → b ≡ false →
+      rows-of s (as-rows (drop from xs)) ≡ rows-of s (as-rows (drop (i + 1) xs))
+  row-passed h e t = z ∙ row-is-not-its i xs s h (sym e ∙ t)
 
-  pub its-first-row : i < length xs → in-row s (as-row (getD xs i [])) ≡ true → (n ≡ 0 → ⊥) → with-more 0 (rows-of s (as-rows (drop (i + 1) xs))) ≡ one-row (rows-of s (as-rows xs))
-  its-first-row h e d = sym (ap (with-more n) (row-is-its i xs s h e) ∙ first-row n _ _ d) ∙ z
+  pub no-row-found : length xs ≤ i → i ≤ length xs → Next-row s xs from i
+  no-row-found h g = record { at-most = g; none-before = z; in-it = λ l. absurd (omega arith) }
 
-  pub another-row : i < length xs → in-row s (as-row (getD xs i [])) ≡ false → with-more n (rows-of s (as-rows (drop (i + 1) xs))) ≡ one-row (rows-of s (as-rows xs))
-  another-row h e = sym (ap (with-more n) (row-is-not-its i xs s h e)) ∙ z
+pub ruleset next-laws = (row-found, row-passed, no-row-found)
 
-  pub rows-counted : length xs ≤ i → n ≡ with-more n [] → n ≡ one-row (rows-of s (as-rows xs))
-  rows-counted h e = e ∙ ap (with-more n) (sym (none-of-none i xs s h)) ∙ z
+-- 54 AND 55 of a segment, by its first row and the next
+module _ (s i : ℕ) (xs : List (List ℕ)) (own : Next-row s xs 0 i) where
+  pub no-own-row : i ≡ length xs → 54 ≡ one-row (rows-of s (as-rows xs))
+  unfolding one-row
+  no-own-row e = sym (ap one-row (own .none-before ∙ none-of-none i xs s (omega arith)))
 
-pub no-row-yet : (rs : List Row) → with-more 54 rs ≡ one-row rs
-unfolding with-more
-no-row-yet rs = refl
+  own-row : (i ≡ length xs → ⊥) → rows-of s (as-rows xs) ≡ as-row (getD xs i []) ∷ rows-of s (as-rows (drop (i + 1) xs))
+  own-row d =
+      let h = own .at-most in
+      let l : i < length xs = omega arith in
+      own .none-before ∙ row-is-its i xs s l (own .in-it l)
 
-pub none-more : 54 ≡ with-more 54 []
-unfolding with-more one-row
-none-more = refl
+  pub another-row : (j : ℕ) → (i ≡ length xs → ⊥) → Next-row s xs (i + 1) j → j < length xs → 55 ≡ one-row (rows-of s (as-rows xs))
+  unfolding one-row
+  another-row j d other l =
+      sym (ap one-row (own-row d ∙ ap (λ rs. as-row (getD xs i []) ∷ rs) (other .none-before ∙ row-is-its j xs s l (other .in-it l))))
 
-pub one-and-none-more : 0 ≡ with-more 0 []
-unfolding with-more
-one-and-none-more = refl
+  pub no-other-row : (j : ℕ) → (i ≡ length xs → ⊥) → Next-row s xs (i + 1) j → length xs ≤ j → 0 ≡ one-row (rows-of s (as-rows xs))
+  unfolding one-row
+  no-other-row j d other h =
+      sym (ap one-row (own-row d ∙ ap (λ rs. as-row (getD xs i []) ∷ rs) (other .none-before ∙ none-of-none j xs s h)))
 
-pub ruleset count-laws = (second-row, its-first-row, another-row, rows-counted, no-row-yet, none-more, one-and-none-more)
+pub ruleset count-laws = (no-own-row, another-row, no-other-row)
 
 -- THE SEGMENTS from one on
 module _ (s l n : ℕ) (rows : List Row) (below : s < l) (z : segments-questions (l - s) s rows ≡ segments-questions l 0 rows) (q : n ≡ one-row (rows-of s rows)) where
@@ -96,4 +99,7 @@ pub segments-pass : (s l : ℕ) (rows : List Row) → l ≤ s → segments-quest
 unfolding segments-questions
 segments-pass s l rows h z = let e : l - s ≡ 0 = omega arith in sym (ap (λ k. segments-questions k s rows) e) ∙ z
 
-pub ruleset segments-laws = (segment-fails, segment-passes, segments-pass)
+pub segments-first : (l : ℕ) (rows : List Row) → segments-questions (l - 0) 0 rows ≡ segments-questions l 0 rows
+segments-first l rows = let e : l - 0 ≡ l = omega arith in ap (λ k. segments-questions k 0 rows) e
+
+pub ruleset segments-laws = (segments-first, segment-fails, segment-passes, segments-pass)

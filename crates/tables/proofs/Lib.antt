@@ -2,3 +2,4 @@
 pub mod RowLaws
 pub mod JudgeLaws
 pub mod PutLaws
+pub mod AnswerLaws

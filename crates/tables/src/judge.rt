@@ -1,8 +1,10 @@
 // 53, 54 and 55 of a table.
 ghost use mathlib.Core.Path.{_≡_};
-ghost use mathlib.Core.Bool.{true, false};
+ghost use Prim.Native.Nat.{_≤_};
+ghost use lib.ListN.{length};
 ghost use Rattle.model.specs.Brackets as Brackets;
 ghost use Rattle.tables.specs.View.{as-row, as-rows};
+ghost use Rattle.tables.specs.Next.{Next-row};
 
 // 53 of one row.
 fn is_row_fit(row: [u16; 5], segments: u16) -> bool
@@ -32,28 +34,40 @@ pub fn is_table_fit(rows: &[[u16; 5]], segments: u16) -> bool
 }
 
 // Is a segment in a row?
-pub fn is_in_row(row: [u16; 5], segment: u16) -> bool
+fn is_in_row(row: [u16; 5], segment: u16) -> bool
     ensures { λ b. ⌜ b ≡ Brackets.in-row segment (as-row row) ⌝ }
 {
     (row[0] <= segment) & (segment <= row[1])
+}
+
+// The place of the first row from one on that a segment is in; past the last where it is in none.
+pub fn next_row(rows: &[[u16; 5]], from: usize, segment: u16) -> usize
+    requires { ⌜ from ≤ length (now rows) ⌝ }
+    ensures { λ i. ⌜ Next-row segment (now (rows .entry)) from i ⌝ }
+{
+    let mut i = from;
+    while i < rows.len() {
+        if is_in_row(rows[i], segment) {
+            return i;
+        }
+        i += 1;
+    }
+    i
 }
 
 // 54 and 55 of a segment.
 fn segment_answer(rows: &[[u16; 5]], segment: u16) -> u8
     ensures { λ n. ⌜ n ≡ Brackets.one-row (Brackets.rows-of segment (as-rows (now (rows .entry)))) ⌝ }
 {
-    let mut number = 54;
-    let mut i = 0;
-    while i < rows.len() {
-        if is_in_row(rows[i], segment) {
-            if number == 0 {
-                return 55;
-            }
-            number = 0;
-        }
-        i += 1;
+    let own = next_row(rows, 0, segment);
+    if own == rows.len() {
+        return 54;
     }
-    number
+    let other = next_row(rows, own + 1, segment);
+    if other < rows.len() {
+        return 55;
+    }
+    0
 }
 
 // Of all segments; the lowest at fault decides.

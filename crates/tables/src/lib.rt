@@ -1,7 +1,6 @@
 // A table for who may do what: its rows set the brackets and flags of every descriptor. A lent row is what C has as two numbers of 16
 // bits and six bytes: first, last, then R1 with R2, R3 with R, W with E, the first of two bytes the lower.
 ghost use mathlib.Core.Path.{_≡_};
-ghost use Prim.Native.Nat.{_≤_};
 ghost use lib.ListN.{length};
 ghost use Rattle.model.specs.Brackets.{table-questions, set-brackets};
 ghost use Rattle.tables.specs.View.{as-rows, base};
@@ -31,8 +30,9 @@ pub fn set_brackets(memory: &mut [u64], address: u32, segments: u16, rows: &[[u1
     ensures { λ n. ⌜ (n ≡ set-brackets (now (memory .entry)) (base address segments) (as-rows (now (rows .entry))) .answer) × (now (memory .exit) ≡ set-brackets (now (memory .entry)) (base address segments) (as-rows (now (rows .entry))) .memory) ⌝ }
 {
     let number = answer(memory, address, segments, rows);
-    if number == 0 {
-        put::put_rows(memory, address, segments, rows);
+    if number != 0 {
+        return number;
     }
-    number
+    put::put_rows(memory, address, segments, rows);
+    0
 }
