@@ -8,11 +8,16 @@ use lib.Dec.{eqb}
 use lib.ListN.{length, getD, set}
 use borrow.Author.Tests.{eqb-true, eq-eqb, ne-eqb}
 use Rattle.model.specs.Words.{field, on, descriptor-in}
-use Rattle.model.specs.Registers.{Dbr}
-use Rattle.model.specs.Questions.{all}
-use Rattle.model.specs.Brackets.{Row, in-row, rows-of, row-fits, table-fits, one-row, segments-questions, table-questions, flag-bit, bracket-bits, with-brackets, by-row, with-rows, set-brackets}
-use Rattle.model.specs.Bracketing.{Refused-table-writes-nothing, Fields-of-row, Set-by-row, Table-sets-fields, Table-keeps-others, Table-keeps-size, Permuted, same, behind, exchanged, and-then, Order-of-rows-free}
+use Rattle.model.specs.Registers.{Dbr, Delivery, Machine, machine}
+use Rattle.model.specs.Questions.{ask, all, memory-fits, start-questions}
+use Rattle.model.specs.Image.{loaded, image}
+use Rattle.model.specs.Write.{written-image}
+use Rattle.model.specs.Written.{Writable}
+use Rattle.model.specs.Brackets.{Row, in-row, rows-of, row-fits, table-fits, one-row, segments-questions, table-questions, flag-bit, bracket-bits, with-brackets, by-row, with-rows, set-brackets, bracketed-text, image-bracketed}
+use Rattle.model.specs.Bracketing.{Refused-table-writes-nothing, Fields-of-row, Set-by-row, Table-sets-fields, Table-keeps-others, Table-keeps-size, Permuted, same, behind, exchanged, and-then, Order-of-rows-free, Bracketed-loads}
 use Rattle.model.proofs.BranchLaws.{by-equality, cond-rel, and-left}
+use Rattle.model.proofs.ListLaws.{Each-word, each-word-set}
+use Rattle.model.proofs.WrittenLaws.{written-loads}
 use Rattle.model.proofs.QuestionLaws.{then-ask-yes, then-ask-same}
 use Rattle.model.proofs.BracketLaws.{Row-within, row-within, all-rows-of, Only-row, one-row-only, each-segment-passes, Accepted, accepted, flag-bit-within, bracket-bits-within, length-with-rows, with-rows-other, with-rows-own, refused-same, accepted-written}
 
@@ -244,3 +249,56 @@ order-of-rows-free m b rows others p =
     (λ e. with-rows-permuted p (b .length) 0 (b .address) m (accepted (length m) b rows (eqb-true _ _ e) .segments-pass)) (λ _. refl)
     in
     λ i. record { answer = q i; memory = k i }
+
+answered : (m : List ℕ) (b : Dbr) (rows : List Row) → set-brackets m b rows .answer ≡ table-questions (length m) b rows
+unfolding set-brackets
+answered m b rows = refl
+
+-- THE IMAGE WRITTEN: words stay words of 64 bits, and 1 to 4 ask nothing of them
+by-row-fits : (l w : ℕ) (rows : List Row) → all (row-fits l) rows ≡ true → w < 2 ^ 64 → by-row rows w < 2 ^ 64
+unfolding by-row all with-brackets
+by-row-fits l w [] e h = h
+by-row-fits l w (r ∷ rs) e h =
+    let small = bracket-bits-within l r (row-within l r (and-left (row-fits l r) _ e)) in omega arith
+
+with-rows-fit : (l n s : ℕ) (rows : List Row) (a : ℕ) (m : List ℕ) → all (row-fits l) rows ≡ true → Each-word (λ w. w < 2 ^ 64) m →
+    Each-word (λ w. w < 2 ^ 64) (with-rows n s rows a m)
+unfolding with-rows
+with-rows-fit l zero s rows a m e h = h
+with-rows-fit l (suc n) s rows a m e h =
+    with-rows-fit l n (suc s) rows a _ e
+    (each-word-set (λ w. w < 2 ^ 64) m (a + s) _ h (by-row-fits l (getD m (a + s) 0) (rows-of s rows) (all-rows-of (row-fits l) s rows e) (h (a + s))))
+
+module _ (v : Delivery) (m : Machine) (b : ℕ) (rows : List Row) (h : Writable v m b) (e : table-questions (length (m .memory)) (m .registers .dbr) rows ≡ 0) where
+  abbrev set-memory : List ℕ
+  set-memory = set-brackets (m .memory) (m .registers .dbr) rows .memory
+
+  set-memory-fits : Each-word (λ w. w < 2 ^ 64) set-memory
+  set-memory-fits =
+      let d = m .registers .dbr in
+      subst (Each-word (λ w. w < 2 ^ 64)) (sym (accepted-written (m .memory) d rows e))
+      (with-rows-fit (d .length) (d .length) 0 rows (d .address) (m .memory) (accepted (length (m .memory)) d rows e .rows-fit) (h .words-fit))
+
+  set-memory-passes : start-questions v (machine (m .registers) set-memory) ≡ 0
+  unfolding start-questions machine ask memory-fits
+  set-memory-passes = rw (table-keeps-size (m .memory) (m .registers .dbr) rows) (h .passes)
+
+  set-writable : Writable v (machine (m .registers) set-memory) b
+  unfolding machine
+  set-writable =
+      record {
+        memory-allowed = let z = table-keeps-size (m .memory) (m .registers .dbr) rows in let k = h .memory-allowed in omega arith;
+        words-fit = set-memory-fits;
+        a-fits = h .a-fits;
+        eight-prs = h .eight-prs;
+        passes = set-memory-passes;
+        budget-fits = h .budget-fits;
+      }
+
+  set-image-written : image-bracketed rows (loaded v m b) ≡ written-image v (machine (m .registers) set-memory) b
+  unfolding image-bracketed bracketed-text
+  set-image-written = rw (eq-eqb (set-brackets (m .memory) (m .registers .dbr) rows .answer) 0 (answered (m .memory) (m .registers .dbr) rows ∙ e))
+
+pub bracketed-loads : Bracketed-loads
+bracketed-loads v m b rows h e =
+    ap image (set-image-written v m b rows h e) ∙ written-loads v _ b (set-writable v m b rows h e)
