@@ -3,10 +3,10 @@ use mathlib.Core.Bool.{Bool, _&&_, cond}
 use mathlib.Core.List.{List, [], _∷_}
 use Prim.Native.Nat.{ℕ, zero, suc, _+_, _*_, _/_, _%_, _^_}
 use lib.Dec.{eqb, leb, ltb}
-use lib.ListN.{length, getD, set}
+use lib.ListN.{length, getD, set, drop}
 use Rattle.model.specs.Registers.{Registers, Dbr, Delivery, machine}
 use Rattle.model.specs.Questions.{yes-to-all, ask, then-ask, all, memory-fits, dbr-fits}
-use Rattle.model.specs.Image.{Image, refused-image, loaded}
+use Rattle.model.specs.Image.{number-at, Image, refused-image, loaded, image}
 use Rattle.model.specs.Listing.{refusal-line}
 use Rattle.model.specs.Write.{written-image}
 
@@ -90,3 +90,27 @@ bracketed-text v r b x = cond (eqb (x .answer) 0) (written-image v (machine r (x
 unfoldable pub image-bracketed : List Row → Image → List ℕ
 image-bracketed rows (refused-image n) = refusal-line n
 image-bracketed rows (loaded v m b) = bracketed-text v (m .registers) b (set-brackets (m .memory) (m .registers .dbr) rows)
+
+-- its input: how many rows in 2 bytes, each row in 10, high byte first, then the image. 41: are the rows whole?
+unfoldable pub row-at : (at : ℕ) → List ℕ → Row
+row-at a bs =
+    record {
+      first = number-at a 2 bs;
+      last = number-at (a + 2) 2 bs;
+      r1 = number-at (a + 4) 1 bs;
+      r2 = number-at (a + 5) 1 bs;
+      r3 = number-at (a + 6) 1 bs;
+      read = number-at (a + 7) 1 bs;
+      write = number-at (a + 8) 1 bs;
+      execute = number-at (a + 9) 1 bs;
+    }
+
+unfoldable pub rows-at : (count at : ℕ) → List ℕ → List Row
+rows-at zero a bs = []
+rows-at (suc n) a bs = row-at a bs ∷ rows-at n (a + 10) bs
+
+unfoldable pub brackets-text : List ℕ → List ℕ
+brackets-text bs =
+    let count = number-at 0 2 bs in
+    let size = 2 + 10 * count in
+    cond (leb 2 (length bs) && leb size (length bs)) (image-bracketed (rows-at count 2 bs) (image (drop size bs))) (refusal-line 41)
