@@ -102,10 +102,11 @@ fn put_answer(
     writing::put_image(text, registers, memory, budget)
 }
 
+// There is room for a record of each word of the whole store.
 fn print_answer(registers: Registers, memory: &mut [u64], budget: u32, rows: &[[u16; 5]])
-    requires { ⌜ length (now memory) ≤ 8192 ⌝ }
+    requires { ⌜ length (now memory) ≤ 8320 ⌝ }
 {
-    let mut text = [0u8; 114766];
+    let mut text = [0u8; 116558];
     let size = put_answer(&mut text, registers, memory, budget, rows);
     io::write_all(STDOUT_FILENO, &text[..size]);
 }
