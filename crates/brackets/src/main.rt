@@ -13,7 +13,6 @@ ghost use Rattle.brackets.specs.Printed.{Printed};
 use fields::number::number_1;
 use fields::number::number_2;
 use host::record::Registers;
-use image::load::LoadOutcome;
 use libc::STDOUT_FILENO;
 use run::Reply;
 
@@ -114,19 +113,10 @@ fn print_answer(registers: Registers, memory: &mut [u64], budget: u32, rows: &[[
 // What the image itself is refused for comes first, then the table.
 fn bracket_image(rows: &[[u16; 5]]) {
     let mut store = loading::empty_store();
-    let x = reading::read_image(&mut store);
-    let loading = x.loading;
-    let outcome = x.outcome;
-    match outcome {
-        LoadOutcome::Refused(n) => {
-            streams::print_refusal(n);
-        }
-        LoadOutcome::More(_n) => {}
-        LoadOutcome::Ready(budget) => {
-            let words = loading.words as usize;
-            let registers = loading.registers;
-            print_answer(registers, &mut store[..words], budget, rows);
-        }
+    let x = reading::image_on_input(&mut store);
+    if x.is_whole {
+        let words = x.words;
+        print_answer(x.registers, &mut store[..words], x.budget, rows);
     }
 }
 

@@ -2,7 +2,6 @@
 ghost use Rattle.checks.specs.View.{Verdict-within};
 use checks::Verdict;
 use fields::number::number_2;
-use image::load::LoadOutcome;
 use libc::STDOUT_FILENO;
 
 fn print_verdict(verdict: Verdict)
@@ -16,19 +15,10 @@ fn print_verdict(verdict: Verdict)
 // What the image itself is refused for comes first, then the check.
 fn check_image(ring: u8, segment: u16, word: u16) {
     let mut store = loading::empty_store();
-    let x = reading::read_image(&mut store);
-    let loading = x.loading;
-    let outcome = x.outcome;
-    match outcome {
-        LoadOutcome::Refused(n) => {
-            streams::print_refusal(n);
-        }
-        LoadOutcome::More(_n) => {}
-        LoadOutcome::Ready(_budget) => {
-            let words = loading.words as usize;
-            let registers = loading.registers;
-            print_verdict(checks::ask(registers, &store[..words], ring, segment, word));
-        }
+    let x = reading::image_on_input(&mut store);
+    if x.is_whole {
+        let words = x.words;
+        print_verdict(checks::ask(x.registers, &store[..words], ring, segment, word));
     }
 }
 
