@@ -21,6 +21,10 @@ int64_t plain_bench(const uint8_t *image, size_t image_length, uint8_t *text, si
 kuzhlemor_check plain_may_call(const kuzhlemor_registers *registers, const uint64_t *memory, size_t words, uint8_t ring,
                                uint16_t segment, uint16_t word);
 
+/* As kuzhlemor_set_brackets. */
+uint32_t plain_set_brackets(uint64_t *memory, size_t words, uint32_t dbr_address, uint16_t dbr_length,
+                            const kuzhlemor_row *rows, size_t row_count);
+
 /* As kuzhlemor_convert. */
 int64_t plain_convert(uint8_t *image, size_t length);
 

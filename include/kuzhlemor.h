@@ -1,6 +1,7 @@
 /* The ring processor as a C library: one step, or a run under a budget, over a register record and a memory that the
- * caller lends; a whole image run for its listing; and a stored image of the old rules made into one of today's. Link
- * with libkuzhlemor.a (x86-64, System V calling convention), which needs nothing but memset and memmove.
+ * caller lends; brackets set for ranges of segments by a table (kuzhlemor_set_brackets); a whole image run for its listing;
+ * and a stored image of the old rules made into one of today's. Link with libkuzhlemor.a (x86-64, System V calling
+ * convention), which needs nothing but memset and memmove.
  *
  * The caller tests nothing first. Any values in the record and in memory, broken ones too, any number of words and any
  * budget get a defined reply. What the caller owes is the usual of C:
@@ -121,6 +122,35 @@ typedef struct {
 kuzhlemor_check kuzhlemor_may_call(const kuzhlemor_registers *registers, const uint64_t *memory, size_t words, uint8_t ring,
                                    uint16_t segment, uint16_t word);
 
+/* A row of a table for who may do what: segments first to last, these two as well, get rings r1, r2 and r3 and the flags R, W
+ * and E, each off at 0 and on at any other value. */
+typedef struct {
+    uint16_t first;
+    uint16_t last;
+    uint8_t r1;
+    uint8_t r2;
+    uint8_t r3;
+    uint8_t read;
+    uint8_t write;
+    uint8_t execute;
+} kuzhlemor_row;
+
+/* Sets the brackets of all segments below DBR's length by a table of up to 32 rows, which may be in any order. In the
+ * descriptor word of each segment R1, R2, R3, R, W and E become those of its row. ADDRESS, LENGTH, V and GATE stay, whatever
+ * they are, and so does every other word of memory. Answers 0, or the number of the first of these that is answered no; then
+ * nothing was written.
+ *   1   memory has at most 16,777,216 words
+ *   4   DBR's length is at most 4,096, and the descriptor segment lies within memory
+ *   53  there are at most 32 rows, and in each first <= last < DBR's length and r1 <= r2 <= r3 <= 7
+ *   54, 55  every segment below DBR's length is in one row only; the lowest that isn't decides:
+ *       54  it is in some row
+ *       55  it isn't in several rows
+ * 2 isn't asked: the address may be any number. With a length of 0 the table without rows is accepted, and no other.
+ * rows points to `row_count` rows, aligned, which are only read; it isn't null, not even when row_count is 0. Memory and rows
+ * don't overlap. */
+uint32_t kuzhlemor_set_brackets(uint64_t *memory, size_t words, uint32_t dbr_address, uint16_t dbr_length,
+                                const kuzhlemor_row *rows, size_t row_count);
+
 /* Loads an image, runs it and writes its listing into text: a line for each completed step (its number, IPR's ring, segment
  * and word after it, and how many pointer words it read) and a last line (`spent COUNT TOTAL`, `halted COUNT TOTAL` or
  * `fault NUMBER COUNT RING SEGMENT WORD TOTAL`, where TOTAL is the sum of the lines' pointer words), each ended by a
@@ -185,10 +215,21 @@ static_assert(offsetof(kuzhlemor_reply, pointer_words) == 24, "pointer words");
 static_assert(sizeof(kuzhlemor_check) == 20, "size of a check");
 static_assert(offsetof(kuzhlemor_check, ring) == 8, "ring of a check");
 static_assert(offsetof(kuzhlemor_check, pointer) == 12, "pointer of a check");
+static_assert(sizeof(kuzhlemor_row) == 10, "size of a row");
+static_assert(offsetof(kuzhlemor_row, first) == 0, "first segment");
+static_assert(offsetof(kuzhlemor_row, last) == 2, "last segment");
+static_assert(offsetof(kuzhlemor_row, r1) == 4, "R1");
+static_assert(offsetof(kuzhlemor_row, r2) == 5, "R2");
+static_assert(offsetof(kuzhlemor_row, r3) == 6, "R3");
+static_assert(offsetof(kuzhlemor_row, read) == 7, "R");
+static_assert(offsetof(kuzhlemor_row, write) == 8, "W");
+static_assert(offsetof(kuzhlemor_row, execute) == 9, "E");
 #ifdef __cplusplus
 static_assert(alignof(kuzhlemor_registers) == 8, "alignment of the registers");
+static_assert(alignof(kuzhlemor_row) == 2, "alignment of a row");
 #else
 static_assert(_Alignof(kuzhlemor_registers) == 8, "alignment of the registers");
+static_assert(_Alignof(kuzhlemor_row) == 2, "alignment of a row");
 #endif
 
 #ifdef __cplusplus

@@ -781,15 +781,15 @@ fn pointer_bytes(pointer: Pointer) -> [u8; 5] {
     [pointer.ring, segno[0], segno[1], wordno[0], wordno[1]]
 }
 
-fn me(words: u32) -> Vec<u8> {
+pub(crate) fn me(words: u32) -> Vec<u8> {
     [&b"ME"[..], &words.to_be_bytes()].concat()
 }
 
-fn wd(address: u32, word: u64) -> Vec<u8> {
+pub(crate) fn wd(address: u32, word: u64) -> Vec<u8> {
     [&b"WD"[..], &address.to_be_bytes(), &word.to_be_bytes()].concat()
 }
 
-fn rn(budget: u32) -> Vec<u8> {
+pub(crate) fn rn(budget: u32) -> Vec<u8> {
     [&b"RN"[..], &budget.to_be_bytes()].concat()
 }
 

@@ -1,4 +1,4 @@
-//! Images: ME, ST, WD and RN records, and the questions 41 to 44 and 51, then 1 to 4.
+//! Images: ME, ST, WD and RN records, and the questions 41 to 44 and 51, then 1 to 4; and images written anew.
 
 use crate::machine::{refusal, Registers};
 use crate::words::{Dbr, Pointer};
@@ -184,4 +184,52 @@ pub(crate) fn read_records(bytes: &[u8], rules: Rules) -> Result<Image, u8> {
     // Memory is all zero but for the words given.
     let memory = given.into_iter().map(Option::unwrap_or_default).collect();
     Ok(Image { registers, memory, budget })
+}
+
+// ---- Writing.
+
+/// RING 1, SEGNO 2, WORDNO 2.
+pub fn pointer_bytes(pointer: Pointer) -> [u8; 5] {
+    let [segno_high, segno_low] = pointer.segno.to_be_bytes();
+    let [wordno_high, wordno_low] = pointer.wordno.to_be_bytes();
+    [pointer.ring, segno_high, segno_low, wordno_high, wordno_low]
+}
+
+/// The ST record. A switch that no byte holds is refused as 255 is.
+pub fn st(registers: &Registers) -> Vec<u8> {
+    let mut record = stored_st(registers);
+    record.push(u8::try_from(registers.fault_switch).unwrap_or(u8::MAX));
+    record.extend(registers.save_segment.to_be_bytes());
+    record.extend(registers.handler_segment.to_be_bytes());
+    record
+}
+
+/// The ST record of a stored image, without switch and segments.
+pub fn stored_st(registers: &Registers) -> Vec<u8> {
+    let mut record = b"ST".to_vec();
+    record.extend(registers.a.to_be_bytes());
+    record.extend(registers.dbr.address.to_be_bytes());
+    record.extend(registers.dbr.length.to_be_bytes());
+    record.extend(pointer_bytes(registers.ipr));
+    for pr in registers.pr {
+        record.extend(pointer_bytes(pr));
+    }
+    record
+}
+
+/// The image of these by today's rules: ME, ST, the words that aren't zero in the order of their addresses, RN.
+pub fn write_image(registers: &Registers, memory: &[u64], budget: u32) -> Vec<u8> {
+    let mut image = b"ME".to_vec();
+    image.extend((memory.len() as u32).to_be_bytes());
+    image.extend(st(registers));
+    for (address, word) in memory.iter().enumerate() {
+        if *word != 0 {
+            image.extend(b"WD");
+            image.extend((address as u32).to_be_bytes());
+            image.extend(word.to_be_bytes());
+        }
+    }
+    image.extend(b"RN");
+    image.extend(budget.to_be_bytes());
+    image
 }

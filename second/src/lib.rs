@@ -1,17 +1,19 @@
-//! A second implementation of the ring processor, written from document 01 and requests L1, L2, L4, L5 and L6 of
+//! A second implementation of the ring processor, written from document 01 and requests L1, L2, L4, L5, L6 and L8 of
 //! document 02 alone, to be compared with the first.
 //!
 //! It reads like the paper: `words` has the descriptor, the pointer word and the instruction; `machine` the registers,
 //! the questions, a step, a run and the check of CALL; `frame` what a delivered fault leaves; `image` the records;
 //! `listing` the text; `bench` the call of the bench's firmware; `convert` the program for stored images; `may_call` the
-//! program that asks the check. `repeats` and `states` have directed images, `pointers`, `delivery` and `stacks` directed
-//! machines with what each of them asks for, `calls` pointers for the check with its answers, and `opcodes` the numbers
-//! that they use; they are for the tests and the comparison. A comment that starts with a number is the question of that
-//! number.
+//! program that asks the check; `brackets` the table for who may do what and its program. `repeats` and `states` have
+//! directed images, `pointers`, `delivery` and `stacks` directed machines with what each of them asks for, `calls`
+//! pointers for the check with its answers, `tables` tables of brackets with what each of them leaves, and `opcodes` the
+//! numbers that they use; they are for the tests and the comparison. A comment that starts with a number is the question
+//! of that number.
 
 #![forbid(unsafe_code)]
 
 pub mod bench;
+pub mod brackets;
 pub mod calls;
 pub mod convert;
 pub mod delivery;
@@ -25,9 +27,11 @@ pub mod pointers;
 pub mod repeats;
 pub mod stacks;
 pub mod states;
+pub mod tables;
 pub mod words;
 
 pub use bench::bench;
+pub use brackets::{brackets_output, set_brackets, Row};
 pub use convert::{convert, converted};
 pub use image::{read_image, read_stored_image, Image, Rules};
 pub use listing::list;

@@ -107,7 +107,7 @@ fn refusal_with(registers: &Registers, handed_in: &[Pointer], words: usize) -> R
 }
 
 /// 1: has memory at most 16,777,216 words?
-fn memory_is_allowed(words: usize) -> bool {
+pub(crate) fn memory_is_allowed(words: usize) -> bool {
     words <= MEMORY_LIMIT
 }
 
@@ -133,7 +133,7 @@ fn prs_are_at_or_above_ipr(registers: &Registers) -> bool {
 }
 
 /// 4, and 34 of the DBR that LDBR or opcode 42 reads: is LENGTH ≤ 4,096 and ADDRESS + LENGTH within memory?
-fn descriptor_segment_is_allowed(dbr: Dbr, words: usize) -> bool {
+pub(crate) fn descriptor_segment_is_allowed(dbr: Dbr, words: usize) -> bool {
     dbr.length <= 4_096 && is_within_memory(dbr.address, dbr.length, words)
 }
 

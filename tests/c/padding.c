@@ -1,61 +1,19 @@
 /* The record's padding carries nothing, and nothing beside the record is touched: random machines by steps and as runs, with
  * zero, full and random padding, against plain C. Record and memory lie at the edge of pages that can't be touched. */
-#define _DEFAULT_SOURCE
-
 #include "machine.h"
 #include "padding.h"
+#include "place.h"
 
 #include <stdio.h>
 #include <string.h>
-#include <sys/mman.h>
 
 enum {
     MACHINES = 40000,
     STEPS = 16,
-    MOST_BUDGET = 400,
-    PAGE = 4096,
-    CANARY = 0xc3
+    MOST_BUDGET = 400
 };
 
 static_assert(CAPACITY * sizeof(uint64_t) <= PAGE, "a machine's memory fits a page");
-
-/* A page between two that can't be touched. What is lent lies at its start or its end, the rest holds canaries. */
-typedef struct {
-    unsigned char *page;
-    unsigned char *lent;
-    size_t size;
-} place;
-
-static place new_place(void)
-{
-    unsigned char *pages = mmap(NULL, 3 * PAGE, PROT_NONE, MAP_PRIVATE | MAP_ANONYMOUS, -1, 0);
-
-    check(pages != MAP_FAILED && mprotect(pages + PAGE, PAGE, PROT_READ | PROT_WRITE) == 0, "no pages to lend");
-    return (place){.page = pages + PAGE};
-}
-
-static void *lend(place *p, const void *from, size_t size, bool at_end)
-{
-    p->lent = at_end ? p->page + PAGE - size : p->page;
-    p->size = size;
-    memset(p->page, CANARY, PAGE);
-    memcpy(p->lent, from, size);
-    return p->lent;
-}
-
-static void check_canaries(const unsigned char *from, const unsigned char *end)
-{
-    for (; from < end; from++)
-        if (*from != CANARY)
-            check(false, "a byte beside what was lent is written");
-}
-
-static void take_back(const place *p, void *to)
-{
-    memcpy(to, p->lent, p->size);
-    check_canaries(p->page, p->lent);
-    check_canaries(p->lent + p->size, p->page + PAGE);
-}
 
 /* kuzhlemor_run, or kuzhlemor_step where it is a `single` step, with this padding in the record. */
 static kuzhlemor_reply call_padded(machine *m, bool single, uint32_t budget, const uint8_t padding[PADDING], bool at_end)
@@ -66,9 +24,9 @@ static kuzhlemor_reply call_padded(machine *m, bool single, uint32_t budget, con
     uint64_t *memory;
     kuzhlemor_reply reply;
 
-    if (record_place.page == NULL) {
-        record_place = new_place();
-        memory_place = new_place();
+    if (record_place.start == NULL) {
+        record_place = new_place(1);
+        memory_place = new_place(1);
     }
     registers = lend(&record_place, &m->registers, sizeof m->registers, at_end);
     memory = lend(&memory_place, m->memory, m->words * sizeof m->memory[0], at_end);

@@ -1,6 +1,7 @@
 /* A fuzzer's input compared: the plain C processor, built for coverage, and the library must give the same answer, registers
  * and memory, byte for byte. An input's first byte says whether the rest is an image, which is run, and converted and then run,
- * or a register record and a memory, which are run, and asked whether a call may go to some pointers. */
+ * or a register record and a memory, which are run, and asked whether a call may go to some pointers. Of either sort, the rest is
+ * also taken for such a memory, and its end for a table that sets brackets in it. */
 #include "images.h"
 #include "kuzhlemor.h"
 #include "padding.h"
@@ -16,7 +17,9 @@ enum {
     WORDS = 256,
     BUDGET = 200,
     TEXT = 64 * (BUDGET + 1) + 32,
-    RECORD = ST_SIZE - 2
+    RECORD = ST_SIZE - 2,
+    ROWS = 40,
+    ROW_BYTES = 4
 };
 
 static void require(int same, const char *what)
@@ -78,6 +81,122 @@ static void compare_checks(const kuzhlemor_registers *r, const kuzhlemor_registe
     }
 }
 
+/* The words of memory behind the record; answers how many. */
+static size_t words_at(const uint8_t *bytes, size_t length, uint64_t memory[WORDS])
+{
+    size_t words = (length - RECORD) / 8;
+
+    if (words > WORDS)
+        words = WORDS;
+    for (size_t k = 0; k < words; k++)
+        memory[k] = number_at(bytes + RECORD + 8 * k, 8);
+    return words;
+}
+
+/* A row from four bytes: a length and what is wrong with it, rings, flags, and what is wrong with the rings. It begins where the
+ * one before it ended, and its rings don't fall, so that many tables are whole but for little. */
+static kuzhlemor_row row_at(const uint8_t *bytes, unsigned first, unsigned segments)
+{
+    unsigned last = first + bytes[0] % 16;
+    kuzhlemor_row row = {.first = (uint16_t)first};
+
+    row.last = (uint16_t)(last < segments && bytes[0] < 0xe0 ? last : segments - 1);
+    switch (bytes[0] >> 4) {
+    case 1:
+        row.first--;
+        break;
+    case 2:
+        row.first++;
+        break;
+    case 3:
+        row.last = (uint16_t)segments;
+        break;
+    case 4:
+        row.first = bytes[1];
+        row.last = bytes[2];
+        break;
+    default:
+        break;
+    }
+    row.r3 = bytes[3] == 3 ? bytes[1] : bytes[1] & 7;
+    row.r2 = bytes[3] == 2 ? bytes[1] : row.r3 * (bytes[1] >> 3 & 3) / 3;
+    row.r1 = bytes[3] == 1 ? bytes[1] : row.r2 * (bytes[1] >> 6) / 3;
+    row.read = bytes[2] & 0x03;
+    row.write = bytes[2] & 0x1c;
+    row.execute = bytes[2] & 0xe0;
+    return row;
+}
+
+/* Rows until all segments have one, from the input's end backwards, each put at some place among those before it. */
+static size_t table_at(const uint8_t *bytes, size_t length, unsigned segments, kuzhlemor_row rows[ROWS])
+{
+    unsigned next = 0;
+    size_t count = 0;
+
+    while (count < ROWS && next < segments && ROW_BYTES * (count + 1) <= length) {
+        const uint8_t *from = bytes + length - ROW_BYTES * (count + 1);
+        size_t place = from[3] % (count + 1);
+        kuzhlemor_row row = row_at(from, next, segments);
+
+        rows[count++] = rows[place];
+        rows[place] = row;
+        next = row.last + 1u;
+    }
+    return count;
+}
+
+/* The machine's DBR, or one that is a little off. */
+static kuzhlemor_dbr dbr_near(kuzhlemor_dbr dbr, uint8_t how)
+{
+    switch (how % 16) {
+    case 1:
+        dbr.address++;
+        break;
+    case 2:
+        dbr.address--;
+        break;
+    case 3:
+        dbr.length++;
+        break;
+    case 4:
+        dbr.length--;
+        break;
+    case 5:
+        dbr.address = UINT32_MAX - dbr.length + 1;
+        break;
+    default:
+        break;
+    }
+    return dbr;
+}
+
+/* A table for the record's DBR, with one near it. */
+static void compare_tables(const uint8_t *bytes, size_t length)
+{
+    static uint64_t x[WORDS];
+    static uint64_t y[WORDS];
+    kuzhlemor_row rows[ROWS] = {{0}};
+    kuzhlemor_row lent[ROWS];
+    kuzhlemor_dbr recorded;
+    kuzhlemor_dbr dbr;
+    size_t words;
+    size_t count;
+
+    if (length < RECORD)
+        return;
+    words = words_at(bytes, length, x);
+    memcpy(y, x, sizeof y);
+    recorded = registers_at(bytes).dbr;
+    dbr = dbr_near(recorded, bytes[length - 1]);
+    count = table_at(bytes, length, recorded.length, rows);
+    memcpy(lent, rows, sizeof lent);
+    require(plain_set_brackets(x, words, dbr.address, dbr.length, rows, count) ==
+                kuzhlemor_set_brackets(y, words, dbr.address, dbr.length, lent, count),
+            "a table's answer");
+    require(memcmp(x, y, sizeof x) == 0, "a word after a table");
+    require(memcmp(rows, lent, sizeof rows) == 0, "a row");
+}
+
 /* The record of an ST, then the words of memory; checks, a run, and a step after it. The library's record has the input's last bytes
  * as padding, whatever else they are. */
 static void compare_machines(const uint8_t *bytes, size_t length, uint8_t how)
@@ -92,11 +211,8 @@ static void compare_machines(const uint8_t *bytes, size_t length, uint8_t how)
     if (length < RECORD)
         return;
     r = registers_at(bytes);
-    words = (length - RECORD) / 8;
-    if (words > WORDS)
-        words = WORDS;
-    for (size_t k = 0; k < words; k++)
-        x[k] = y[k] = number_at(bytes + RECORD + 8 * k, 8);
+    words = words_at(bytes, length, x);
+    memcpy(y, x, sizeof y);
     s = r;
     put_padding(&s, bytes + length - PADDING);
     compare_checks(&r, &s, y, words, bytes + length - 3);
@@ -119,5 +235,6 @@ int LLVMFuzzerTestOneInput(const uint8_t *data, size_t size)
     } else {
         compare_machines(data + 2, size - 2, data[1]);
     }
+    compare_tables(data + 2, size - 2);
     return 0;
 }

@@ -7,10 +7,14 @@ use lib.Dec.{leb}
 use lib.ListN.{length}
 use borrow.Author.Tests.{not-true, not-false, le-leb, lt-leb}
 use Rattle.model.specs.Words.{Pointer}
-use Rattle.model.specs.Registers.{Dbr, Registers, Delivery, no-delivery, Machine}
+use Rattle.model.specs.Registers.{Dbr, Registers, Delivery, no-delivery, Machine, zero-pointer}
 use Rattle.model.specs.Questions.{ask, all, memory-fits, pointer-in-range, delivery-in-range, registers-in-range, rings-at-least, dbr-fits, start-questions}
 use Rattle.model.specs.Check.{check-questions}
 use Rattle.model.proofs.DeliveredLaws.{same-start}
+use Rattle.state.specs.View.{as-machine}
+use Rattle.state.specs.declared.Core.{Core}
+use Rattle.host.specs.Record.{machine-of, delivery-of, Converted}
+use Rattle.host.specs.declared.record.Registers as Record
 
 -- 1 TO 4, the switch and its segments left out
 module _ (a : ℕ) (d : Dbr) (ipr : Pointer) (ps : List Pointer) (v : List ℕ) where
@@ -99,6 +103,22 @@ module _ (v : Delivery) (p : Pointer) (m : Machine) where
 
       pub check-rest : not k ≡ false → (n : ℕ) → n ≡ start-questions no-delivery m → n ≡ check-questions v m p
       check-rest h n e = e ∙ sym (same-start v no-delivery (sym z ∙ not-false k h) (unfold delivery-in-range in refl) m) ∙ sym asked-on
+
+-- OF A RECORD, with a pointer that is in range: 1 is asked twice, which changes nothing
+asked-twice : (b : Bool) (n x : ℕ) → ask b n (ask b n x) ≡ ask b n x
+unfolding ask
+asked-twice true n x = refl
+asked-twice false n x = refl
+
+pointer-adds-nothing : (v : Delivery) (m : Machine) → check-questions v m zero-pointer ≡ start-questions v m
+unfolding check-questions start-questions pointer-in-range ask
+pointer-adds-nothing v m = asked-twice (memory-fits (length (m .memory))) 1 _
+
+pub asked-of-record : (r : Record.Registers) (c : Core) (w : Converted r c) (memory : List ℕ) (n : ℕ) →
+    n ≡ check-questions (delivery-of r) (as-machine c (r .prs) memory) zero-pointer → n ≡ start-questions (delivery-of r) (machine-of r memory)
+asked-of-record r c w memory n e =
+    e ∙ pointer-adds-nothing (delivery-of r) (as-machine c (r .prs) memory)
+    ∙ ap (λ g. start-questions (delivery-of r) (record { registers = g; memory = memory })) (w .same)
 
 -- REGISTERS, from equal parts
 pub registers-same : (a : ℕ) (b d : Dbr) (p q : Pointer) (ps : List Pointer) → b ≡ d → p ≡ q →

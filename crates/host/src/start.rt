@@ -10,10 +10,14 @@ ghost use Rattle.model.specs.Questions as Questions;
 ghost use Rattle.model.specs.Check as Check;
 ghost use Rattle.words.specs.View.{as-pointer};
 ghost use Rattle.state.specs.View.{as-pointers, as-machine, as-delivery, pr-of};
+ghost use Rattle.host.specs.Record.{machine-of, delivery-of};
 ghost use Rattle.host.specs.Rings.{packed-rings, Joined, ones, eights};
+use crate::record::Registers;
 use state::Core;
 use state::Delivery;
 use words::pointer::Pointer;
+use words::pointer::SegmentNumber;
+use words::pointer::WordNumber;
 
 // 2 of one pointer.
 fn is_in_range(p: Pointer) -> bool
@@ -172,4 +176,18 @@ pub fn check_answer(
         return 4;
     }
     0
+}
+
+// 1 to 4 of a record: any pointer in range adds nothing to what is asked.
+pub fn record_answer(registers: Registers, memory: &[u64]) -> u8
+    ensures { λ n. ⌜ n ≡ Questions.start-questions (delivery-of registers) (machine-of registers (now (memory .entry))) ⌝ }
+{
+    let core = crate::record::core_of(registers);
+    let prs = registers.prs;
+    let p = Pointer {
+        ring: 0,
+        segment: SegmentNumber(0),
+        word: WordNumber(0),
+    };
+    check_answer(registers.delivery, p, core, &prs, memory)
 }

@@ -1,12 +1,14 @@
 // The C library: a run and a step over a register record and a memory that the host lends, CALL's check over ones that are only read,
-// an image run whole, and a stored one converted.
+// an image run whole, a stored one converted, and a table for who may do what.
 ghost use mathlib.Core.Path.{_≡_};
 ghost use Rattle.model.specs.Answers.{check-numbers};
 ghost use Rattle.model.specs.Check.{check};
 ghost use Rattle.model.specs.Bench as Bench;
 ghost use Rattle.model.specs.Convert.{convert-call};
+ghost use Rattle.model.specs.Brackets.{set-brackets};
 ghost use Rattle.host.specs.Record.{machine-of, delivery-of};
 ghost use Rattle.checks.specs.View.{as-numbers};
+ghost use Rattle.tables.specs.View.{as-rows, base};
 ghost use Rattle.kuzhlemor.specs.Entry.{Run-says, Step-says};
 use checks::Check;
 use entry::Answer;
@@ -59,4 +61,17 @@ pub extern "C" fn kuzhlemor_convert(image: &mut [u8]) -> i64
     ensures { λ r. ⌜ (r ≡ convert-call (now (image .entry)) .answer) × (now (image .exit) ≡ convert-call (now (image .entry)) .buffer) ⌝ }
 {
     calls::signed(conversion::convert(image))
+}
+
+// A table's rows set brackets and flags of every descriptor, or are refused and change nothing: 0, or the question's number.
+#[no_mangle]
+pub extern "C" fn kuzhlemor_set_brackets(
+    memory: &mut [u64],
+    dbr_address: u32,
+    dbr_length: u16,
+    rows: &[[u16; 5]],
+) -> u32
+    ensures { λ n. ⌜ (n ≡ set-brackets (now (memory .entry)) (base «dbr_address» «dbr_length») (as-rows (now (rows .entry))) .answer) × (now (memory .exit) ≡ set-brackets (now (memory .entry)) (base «dbr_address» «dbr_length») (as-rows (now (rows .entry))) .memory) ⌝ }
+{
+    tables::set_brackets(memory, dbr_address, dbr_length, rows) as u32
 }

@@ -1,31 +1,8 @@
 // The laptop's program for CALL's check: a pointer and an image on standard input, what a call there would do on standard output.
-ghost use Prim.Native.Nat.{_≤_};
-ghost use lib.ListN.{length};
 ghost use Rattle.checks.specs.View.{Verdict-within};
 use checks::Verdict;
 use fields::number::number_2;
-use image::load::LoadOutcome;
 use libc::STDOUT_FILENO;
-use streams::Piece;
-
-// The pointer's bytes. Each piece has one of them at least, or is the last.
-fn read_pointer(bytes: &mut [u8]) -> Piece
-    ensures { λ x. ⌜ x .size ≤ length (now (bytes .exit)) ⌝ }
-{
-    let mut x = Piece {
-        size: 0,
-        has_ended: false,
-        has_failed: false,
-    };
-    while x.size < bytes.len() {
-        let before = x.size;
-        x = streams::read_piece(bytes, before);
-        if x.size == before {
-            return x;
-        }
-    }
-    x
-}
 
 fn print_verdict(verdict: Verdict)
     requires { ⌜ Verdict-within verdict ⌝ }
@@ -38,26 +15,17 @@ fn print_verdict(verdict: Verdict)
 // What the image itself is refused for comes first, then the check.
 fn check_image(ring: u8, segment: u16, word: u16) {
     let mut store = loading::empty_store();
-    let x = reading::read_image(&mut store);
-    let loading = x.loading;
-    let outcome = x.outcome;
-    match outcome {
-        LoadOutcome::Refused(n) => {
-            streams::print_refusal(n);
-        }
-        LoadOutcome::More(_n) => {}
-        LoadOutcome::Ready(_budget) => {
-            let words = loading.words as usize;
-            let registers = loading.registers;
-            print_verdict(checks::ask(registers, &store[..words], ring, segment, word));
-        }
+    let x = reading::image_on_input(&mut store);
+    if x.is_whole {
+        let words = x.words;
+        print_verdict(checks::ask(x.registers, &store[..words], ring, segment, word));
     }
 }
 
 // RING, SEGNO and WORDNO, in five bytes, each high byte first; then the image.
 fn main() {
     let mut bytes = [0u8; 5];
-    let x = read_pointer(&mut bytes);
+    let x = streams::read_whole(&mut bytes);
     if x.has_failed {
         os::fail(b"standard input");
         return;

@@ -1,6 +1,9 @@
 -- Branches and tests: what a relation or a property of both arms says of the whole, and what a test's value says of its parts. Assumes nothing.
 use mathlib.Core.Path.{_≡_, refl, sym, _∙_, subst}
 use mathlib.Core.Bool.{Bool, true, false, _&&_, _||_, not, cond, false≢true}
+use Prim.Native.Nat.{ℕ}
+use lib.Dec.{eqb}
+use borrow.Author.Tests.{eqb-true, eqb-false}
 
 -- a relation goes through a branch on two equal tests
 pub cond-rel {ℓ ℓ′ κ} : {A : Type ℓ} {B : Type ℓ′} (R : A → B → Type κ) {b c : Bool} {x y : A} {x′ y′ : B} →
@@ -55,3 +58,11 @@ or-rest false b e h = h
 pub or-none : (a b : Bool) → (a || b) ≡ false → (a ≡ false) × (b ≡ false)
 or-none true b e = absurd (false≢true (sym e))
 or-none false b e = (refl, e)
+
+-- two numbers are equal or not
+pub by-equality {ℓ} : {A : Type ℓ} (a b : ℕ) → (a ≡ b → A) → ((a ≡ b → ⊥) → A) → A
+by-equality {A = A} a b f g = by-test (eqb a b) refl
+  where
+    by-test : (t : Bool) → eqb a b ≡ t → A
+    by-test true e = f (eqb-true a b e)
+    by-test false e = g (eqb-false a b e)

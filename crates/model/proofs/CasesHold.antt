@@ -2,7 +2,7 @@
 use mathlib.Core.Path.{refl}
 use Rattle.model.specs.Run.{single-count}
 use Rattle.model.specs.Cases.{left-by, Holds, about-to-do, about-to, gated, through-pointer, returning, case-12-registers, case-12-words, case-12, pointers-up, through-pointers, case, thirteen, All-hold, Cases-hold}
-use Rattle.model.specs.Readings.{doing, through, with-descriptors, holding, started, ended, with-start, stored-one, todays-one, loading, delivering, restoring, Readings}
+use Rattle.model.specs.Readings.{doing, through, with-descriptors, holding, started, ended, with-start, stored-one, todays-one, loading, delivering, restoring, row, rows-of-one, Readings}
 use Rattle.model.proofs.Computing.{by-computation}
 
 pub thirteen-cases-hold : Cases-hold thirteen
@@ -46,7 +46,7 @@ thirteen-cases-hold = (
 )
 
 pub readings-hold : Readings
-unfolding by-computation single-count left-by Holds about-to-do about-to through-pointer case-12-registers case-12-words case-12 pointers-up through-pointers doing through with-descriptors holding started ended with-start stored-one todays-one loading delivering restoring
+unfolding by-computation single-count left-by Holds about-to-do about-to through-pointer case-12-registers case-12-words case-12 pointers-up through-pointers doing through with-descriptors holding started ended with-start stored-one todays-one loading delivering restoring row rows-of-one
 readings-hold =
     record {
       empty-file-is-42 = refl;
@@ -123,5 +123,17 @@ readings-hold =
       check-of-segment-4096-is-2 = refl;
       check-with-a-low-PR-is-3 = refl;
       check-of-a-ring-above-IPR's-is-30 = refl;
+      table-past-the-end-is-4 = refl;
+      row-up-to-LENGTH-is-53 = refl;
+      row-of-R3-8-is-53 = refl;
+      row-of-R1-above-R2-is-53 = refl;
+      row-backwards-is-53 = refl;
+      rows-33-are-53 = refl;
+      rows-32-are-accepted = refl;
+      lower-54-comes-before-55 = refl;
+      lower-55-comes-before-54 = refl;
+      no-rows-for-no-segments = refl;
+      table-sets-six-fields = refl;
+      refused-table-writes-nothing = refl;
       offset-goes-round = refl;
     }

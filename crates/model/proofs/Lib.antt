@@ -2,6 +2,7 @@
 pub mod BranchLaws
 pub mod ListLaws
 pub mod WordLaws
+pub mod WriteLaws
 pub mod QuestionLaws
 pub mod TableLaws
 pub mod ProgramLaws
@@ -19,12 +20,15 @@ pub mod CheckedLaws
 pub mod EndsLaws
 pub mod CountLaws
 pub mod ImageLaws
+pub mod WrittenLaws
 pub mod CutLaws
 pub mod LastLaws
 pub mod FrontLaws
 pub mod OverwrittenLaws
 pub mod OnceLaws
 pub mod ConvertLaws
+pub mod BracketLaws
+pub mod BracketingLaws
 pub mod ListingLaws
 pub mod TickLaws
 pub mod CountedLaws

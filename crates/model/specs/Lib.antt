@@ -18,9 +18,13 @@ pub mod Image
 pub mod Listing
 pub mod Counted
 pub mod Records
+pub mod Write
+pub mod Written
 pub mod Bench
 pub mod Convert
 pub mod Converted
+pub mod Brackets
+pub mod Bracketing
 pub mod Lent
 pub mod Notation
 pub mod Cases

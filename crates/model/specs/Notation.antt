@@ -1,16 +1,16 @@
 -- Words, memories and images written down for the proved cases. Assumes nothing: these are definitions.
 use mathlib.Core.Bool.{Bool, false, _||_, cond}
 use mathlib.Core.List.{List, [], _∷_, _++_}
-use Prim.Native.Nat.{ℕ, zero, suc, _+_, _*_, _/_, _%_, _^_}
+use Prim.Native.Nat.{ℕ, _+_, _*_, _^_}
 use Prim.Native.Char.{Char, code}
 use Prim.Native.String.{String}
 use Prim.Native.String as Text
 use lib.Dec.{eqb}
 use lib.ListN.{set}
 use Rattle.model.specs.Words.{Pointer}
-use Rattle.model.specs.Registers.{Registers, Delivery, no-delivery}
+use Rattle.model.specs.Registers.{Registers, no-delivery}
 use Rattle.model.specs.Opcodes.{Opcode, LDI}
-use Rattle.model.specs.Listing.{ascii}
+use Rattle.model.specs.Write.{ME-record, ST-record, WD-record, RN-record}
 
 unfoldable pub pointer : (ring segment word : ℕ) → Pointer
 pointer r s w = record { ring = r; segment = s; word = w }
@@ -49,33 +49,14 @@ unfoldable pub storing : List (ℕ × ℕ) → List ℕ → List ℕ
 storing [] m = m
 storing (x ∷ xs) m = storing xs (set m (x .0) (x .1))
 
--- RECORDS of an image: n bytes of a number, high byte first
-unfoldable pub bytes : (n value : ℕ) → List ℕ
-bytes zero v = []
-bytes (suc n) v = v / 256 ^ n % 256 ∷ bytes n v
-
-unfoldable pub pointer-bytes : Pointer → List ℕ
-pointer-bytes p = bytes 1 (p .ring) ++ bytes 2 (p .segment) ++ bytes 2 (p .word)
-
-unfoldable pub pointers-bytes : List Pointer → List ℕ
-pointers-bytes [] = []
-pointers-bytes (p ∷ ps) = pointer-bytes p ++ pointers-bytes ps
-
--- of a stored image, and today's
-unfoldable pub stored-ST : Registers → List ℕ
-stored-ST r =
-    ascii "ST" ++ bytes 8 (r .a) ++ bytes 4 (r .dbr .address) ++ bytes 2 (r .dbr .length) ++ pointer-bytes (r .ipr) ++ pointers-bytes (r .prs)
-
-unfoldable pub ST-record : Registers → Delivery → List ℕ
-ST-record r v = stored-ST r ++ bytes 1 (v .switch) ++ bytes 2 (v .save) ++ bytes 2 (v .handler)
-
+-- RECORDS of an image
 unfoldable pub WD-records : List (ℕ × ℕ) → List ℕ
 WD-records [] = []
-WD-records (x ∷ xs) = ascii "WD" ++ bytes 4 (x .0) ++ bytes 8 (x .1) ++ WD-records xs
+WD-records (x ∷ xs) = WD-record (x .0) (x .1) ++ WD-records xs
 
 -- an image with that ST, and one without delivery
 unfoldable pub image-with : (size : ℕ) → (start : List ℕ) → List (ℕ × ℕ) → (budget : ℕ) → List ℕ
-image-with n st ws b = ascii "ME" ++ bytes 4 n ++ st ++ WD-records ws ++ (ascii "RN" ++ bytes 4 b)
+image-with n st ws b = ME-record n ++ st ++ WD-records ws ++ RN-record b
 
 unfoldable pub image-of : (size : ℕ) → Registers → List (ℕ × ℕ) → (budget : ℕ) → List ℕ
 image-of n r ws b = image-with n (ST-record r no-delivery) ws b

@@ -2,7 +2,7 @@
 use mathlib.Core.Path.{_≡_}
 use mathlib.Core.List.{List, [], _∷_, _++_}
 use mathlib.Core.Option.{some}
-use Prim.Native.Nat.{ℕ, _+_}
+use Prim.Native.Nat.{ℕ, zero, suc, _+_}
 use Prim.Native.String.{String}
 use lib.ListN.{replicate, drop}
 use Rattle.model.specs.Registers.{Registers, Delivery, no-delivery, Machine, machine, with-pr}
@@ -11,7 +11,9 @@ use Rattle.model.specs.Opcodes.{Opcode, LDA, STA, AOS, EAP, TRA, TZE, CA
 use Rattle.model.specs.Deliver.{step-with}
 use Rattle.model.specs.Check.{check}
 use Rattle.model.specs.Listing.{ascii, check-line}
-use Rattle.model.specs.Notation.{pointer, segment, by-ipr, by-pr, indirect-by-pr, indirect-word, bytes, stored-ST, ST-record, WD-records, image-with, image-of}
+use Rattle.model.specs.Notation.{pointer, flag, segment, by-ipr, by-pr, indirect-by-pr, indirect-word, WD-records, image-with, image-of}
+use Rattle.model.specs.Brackets.{Row, set-brackets}
+use Rattle.model.specs.Write.{bytes, stored-ST, ST-record}
 use Rattle.model.specs.Cases.{step-faults, ipr-becomes, pr-becomes, a-becomes, word-becomes, step-counts, run-lists, delivery-lists, image-prints, image-converts, left-by, Holds, about-to-do, about-to, through-pointer, case-12-registers, case-12, pointers-up, through-pointers}
 
 -- the instruction and one word in segment 1
@@ -64,6 +66,17 @@ restoring d b n =
     let p = pointer-word (pointer 4 0 0) in
     about-to-do (by-pr RCU 1) 0 (pointer 0 1 0) d
     (0 ∷ 0 ∷ 5 ∷ b ∷ indirect-word (pointer 4 0 1) ∷ pointer-word (pointer n 0 9) ∷ p ∷ p ∷ p ∷ p ∷ p ∷ p ∷ indirect-word (pointer 5 2 3) ∷ [])
+
+-- a table's row, its flags by their letters; and what a table of a descriptor segment at word 1 of a memory of 40 words answers
+unfoldable pub row : (first last r1 r2 r3 : ℕ) → (flags : String) → Row
+row a b x y z s = record { first = a; last = b; r1 = x; r2 = y; r3 = z; read = flag "R" s; write = flag "W" s; execute = flag "E" s }
+
+unfoldable pub rows-of-one : (count first : ℕ) → List Row
+rows-of-one zero a = []
+rows-of-one (suc n) a = row a a 0 0 0 "" ∷ rows-of-one n (suc a)
+
+abbrev table-answers : (length : ℕ) → List Row → (number : ℕ) → Type 0
+table-answers l rows n = set-brackets (replicate 40 0) (record { address = 1; length = l }) rows .answer ≡ n
 
 pub record Readings : Type 0 where
   -- IMAGES are judged record by record: a bad record's number comes before anything that a later record would get
@@ -160,5 +173,21 @@ pub record Readings : Type 0 where
   pub check-of-segment-4096-is-2 : check-says (holding 0 (pointer 0 0 0) case-12) (pointer 0 4096 0) "refused 2\n"
   pub check-with-a-low-PR-is-3 : check-says (holding 0 (pointer 0 0 0) case-12) (pointer 0 5 0) "refused 3\n"
   pub check-of-a-ring-above-IPR's-is-30 : check-says (about-to CALL 4 4 1 (segment 3 4 5 6 6 "E V" 2)) (pointer 5 1 1) "fault 30 5 1 1\n"
+  -- A TABLE (02, L8): 4 comes before 53, 53 before 54 and 55, of which the lowest segment at fault decides
+  pub table-past-the-end-is-4 : table-answers 40 (row 40 40 0 0 8 "" ∷ []) 4
+  pub row-up-to-LENGTH-is-53 : table-answers 2 (row 0 2 0 0 0 "" ∷ []) 53
+  pub row-of-R3-8-is-53 : table-answers 2 (row 0 0 0 0 8 "" ∷ []) 53
+  pub row-of-R1-above-R2-is-53 : table-answers 2 (row 0 1 3 2 4 "" ∷ []) 53
+  pub row-backwards-is-53 : table-answers 2 (row 0 1 0 0 0 "" ∷ row 1 0 0 0 0 "" ∷ []) 53
+  pub rows-33-are-53 : table-answers 33 (rows-of-one 33 0) 53
+  pub rows-32-are-accepted : table-answers 32 (rows-of-one 32 0) 0
+  pub lower-54-comes-before-55 : table-answers 3 (row 1 2 0 0 0 "" ∷ row 2 2 0 0 0 "" ∷ []) 54
+  pub lower-55-comes-before-54 : table-answers 3 (row 0 1 0 0 0 "" ∷ row 1 1 0 0 0 "" ∷ []) 55
+  pub no-rows-for-no-segments : table-answers 0 [] 0
+  -- it sets six fields, and keeps the others: of a descriptor with every bit on, and of one with none
+  pub table-sets-six-fields :
+      set-brackets (7 ∷ 18446744073709551615 ∷ 0 ∷ 9 ∷ []) (record { address = 1; length = 2 }) (row 0 1 1 2 3 "R E" ∷ []) .memory
+      ≡ 7 ∷ 18445286121291120639 ∷ 3044547697311744 ∷ 9 ∷ []
+  pub refused-table-writes-nothing : set-brackets (0 ∷ 0 ∷ []) (record { address = 0; length = 2 }) (row 0 0 1 1 1 "R" ∷ []) .memory ≡ 0 ∷ 0 ∷ []
   -- WORD NUMBERS go round from 65,535 to 0
   pub offset-goes-round : Holds (pr-becomes (about-to-do (by-pr EAP 1 + 3) 4 (pointer 4 1 65535) 0 []) 5 (pointer 4 1 2))

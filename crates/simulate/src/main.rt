@@ -4,7 +4,6 @@ ghost use Rattle.model.specs.Questions.{start-questions};
 ghost use Rattle.state.specs.View.{as-machine, as-delivery};
 use chunks::Line;
 use host::record::Registers;
-use image::load::LoadOutcome;
 use libc::STDOUT_FILENO;
 use listing::Listed;
 use state::Core;
@@ -61,18 +60,9 @@ fn run_image(registers: Registers, memory: &mut [u64], budget: u32) {
 
 fn main() {
     let mut store = loading::empty_store();
-    let x = reading::read_image(&mut store);
-    let loading = x.loading;
-    let outcome = x.outcome;
-    match outcome {
-        LoadOutcome::Refused(n) => {
-            streams::print_refusal(n);
-        }
-        LoadOutcome::More(_n) => {}
-        LoadOutcome::Ready(budget) => {
-            let words = loading.words as usize;
-            let registers = loading.registers;
-            run_image(registers, &mut store[..words], budget);
-        }
+    let x = reading::image_on_input(&mut store);
+    if x.is_whole {
+        let words = x.words;
+        run_image(x.registers, &mut store[..words], x.budget);
     }
 }

@@ -26,6 +26,25 @@ pub fn read_piece(buffer: &mut [u8], kept: usize) -> Piece
     }
 }
 
+// Reads until the buffer is full or the input ends. Each piece has a byte at least, or is the last.
+pub fn read_whole(bytes: &mut [u8]) -> Piece
+    ensures { λ x. ⌜ x .size ≤ length (now (bytes .exit)) ⌝ }
+{
+    let mut x = Piece {
+        size: 0,
+        has_ended: false,
+        has_failed: false,
+    };
+    while x.size < bytes.len() {
+        let before = x.size;
+        x = read_piece(bytes, before);
+        if x.size == before {
+            return x;
+        }
+    }
+    x
+}
+
 pub fn print_refusal(number: u8) {
     let mut text = [0u8; 64];
     let size = endings::put_last_line(&mut text, 0, Reply::Refused(number), 0);

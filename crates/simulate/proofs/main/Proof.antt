@@ -1,39 +1,24 @@
--- `main` is safe and ends. Assumes nothing.
+-- `main` meets its contract. Assumes nothing.
+use mathlib.Core.Path.{sym}
+use lib.Seq.{length-take-le}
 use borrow.Author.Needs.{needs}
-use Rattle.image.proofs.PieceLaws.{part-size}
-use Rattle.reading.proofs.ReadLaws.{ready-words}
 use Rattle.simulate.proofs.main.Statement.{statement}
 use Rattle.simulate.proofs.main.Tie as tie
 
 empty-store-requires : tie.Need-empty-store-requires
 empty-store-requires c κs = search needs
 
-slice-aggregate-read-image : tie.Need-slice-aggregate-read-image
-slice-aggregate-read-image c = search needs
+slice-aggregate-image-on-input : tie.Need-slice-aggregate-image-on-input
+slice-aggregate-image-on-input c = search needs
 
-read-image-requires : tie.Need-read-image-requires
-read-image-requires c κs = search needs
-
-enum-known-outcome : tie.Need-enum-known-outcome
-enum-known-outcome c = search needs
-
-print-refusal-requires : tie.Need-print-refusal-requires
-print-refusal-requires c κs = search needs
-
-enum-known-outcome-2 : tie.Need-enum-known-outcome-2
-enum-known-outcome-2 c = search needs
-
-enum-known-outcome-3 : tie.Need-enum-known-outcome-3
-enum-known-outcome-3 c = search needs
-
-cast-words : tie.Need-cast-words
-cast-words c = search needs
+image-on-input-requires : tie.Need-image-on-input-requires
+image-on-input-requires c κs = search needs
 
 array-borrow-prefix-store : tie.Need-array-borrow-prefix-store
-array-borrow-prefix-store c = search (needs, part-size, ready-words)
+array-borrow-prefix-store c = search needs
 
 slice-aggregate-run-image : tie.Need-slice-aggregate-run-image
-slice-aggregate-run-image c = search (needs, part-size, ready-words)
+slice-aggregate-run-image c = sym (length-take-le _ _ (array-borrow-prefix-store (c .before)))
 
 run-image-requires : tie.Need-run-image-requires
 run-image-requires c κs = search needs
@@ -44,24 +29,15 @@ returns c = search needs
 returns-2 : tie.Need-returns-2
 returns-2 c = search needs
 
-returns-3 : tie.Need-returns-3
-returns-3 c = search needs
-
 pub main-spec : {M : Type 1} → statement M
 main-spec =
     tie.close
     (tie.spec
     empty-store-requires
-    slice-aggregate-read-image
-    read-image-requires
-    enum-known-outcome
-    print-refusal-requires
-    enum-known-outcome-2
-    enum-known-outcome-3
-    cast-words
+    slice-aggregate-image-on-input
+    image-on-input-requires
     array-borrow-prefix-store
     slice-aggregate-run-image
     run-image-requires
     returns
-    returns-2
-    returns-3)
+    returns-2)

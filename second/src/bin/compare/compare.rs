@@ -1,11 +1,13 @@
-//! One machine, or one image, through both implementations.
+//! One machine, one image or one table of brackets through both implementations.
 
 use crate::checks;
+use crate::images::shuffle;
 use crate::library::{Answer, CheckAnswer, Lent};
 use crate::random::Random;
 use crate::reach::{Place, Reach, Unsaved};
 use second::opcodes::CALL;
-use second::{Check, Descriptor, Fault, Instruction, Pointer, Registers, Reply};
+use second::tables::Table;
+use second::{Check, Descriptor, Fault, Instruction, Pointer, Registers, Reply, Row};
 
 /// What a call is handed.
 #[derive(Clone, Debug, Default, PartialEq, Eq)]
@@ -32,8 +34,10 @@ pub struct Comparer {
     pub machines: u64,
     pub images: u64,
     pub checks: u64,
+    pub tables: u64,
     mine: Vec<u64>,
     after_run: Vec<u64>,
+    reordered: Vec<Row>,
     lent: Lent,
     image: Vec<u8>,
     texts: [Vec<u8>; 2],
@@ -63,8 +67,10 @@ impl Comparer {
             machines: 0,
             images: 0,
             checks: 0,
+            tables: 0,
             mine: Vec::new(),
             after_run: Vec::new(),
+            reordered: Vec::new(),
             lent: Lent::new(0),
             image: Vec::new(),
             texts: [Vec::new(), Vec::new()],
@@ -201,6 +207,50 @@ impl Comparer {
         Err(Difference(text))
     }
 
+    /// A table of brackets. An accepted one leaves the same memory with its rows in another order. Answers what both do.
+    pub fn table(&mut self, table: &Table, random: &mut Random) -> Result<u32, Difference> {
+        self.tables += 1;
+        let answer = self.set_brackets(table, &table.rows)?;
+        self.reach.table(table, answer);
+        if answer != 0 {
+            return Ok(answer);
+        }
+        std::mem::swap(&mut self.mine, &mut self.after_run);
+        let mut rows = std::mem::take(&mut self.reordered);
+        rows.clone_from(&table.rows);
+        shuffle(random, &mut rows);
+        let result = match self.set_brackets(table, &rows) {
+            Ok(0) if self.mine == self.after_run => Ok(0),
+            Ok(again) => Err(format!("second's own answers are 0 and {again}, or the memories differ")),
+            Err(Difference(text)) => Err(text),
+        };
+        let result = result.map_err(|text| Difference(format!("{text}\n  with the rows in this order: {rows:?}")));
+        self.reordered = rows;
+        result
+    }
+
+    /// What a table has left in memory.
+    pub fn memory(&self) -> &[u64] {
+        &self.mine
+    }
+
+    /// These rows for a table's memory and DBR: the answer and every word; the words around memory and the rows stay.
+    fn set_brackets(&mut self, Table { memory, dbr, .. }: &Table, rows: &[Row]) -> Result<u32, Difference> {
+        self.mine.clone_from(memory);
+        self.lent.set_memory(memory);
+        let mine = second::set_brackets(&mut self.mine, *dbr, rows);
+        let (answer, rows_stay) = self.lent.set_brackets(*dbr, rows);
+        if answer == mine && rows_stay && self.lent.memory() == self.mine && self.lent.guards_stand() {
+            return Ok(mine);
+        }
+        let mut text = format!("kuzhlemor_set_brackets with {} rows: second {mine}, library {answer}", rows.len());
+        text += &self.memory_differs();
+        if !rows_stay {
+            text += "\n  the rows were written, or those around them";
+        }
+        Err(Difference(text))
+    }
+
     /// If the CALL at IPR forms its TPR: TPR, and what both answer of it.
     fn check_of_call(&mut self, registers: &Registers) -> Result<Option<(Pointer, Check)>, Difference> {
         match checks::formed(registers, &self.mine) {
@@ -225,6 +275,13 @@ impl Comparer {
         if self.lent.registers() != *registers {
             text += &format!("\n  registers: second {registers:?}\n             library {:?}", self.lent.registers());
         }
+        text += &self.memory_differs();
+        Err(Difference(text))
+    }
+
+    /// The words that differ, in words.
+    fn memory_differs(&self) -> String {
+        let mut text = String::new();
         for (address, (mine, theirs)) in self.mine.iter().zip(self.lent.memory()).enumerate() {
             if mine != theirs {
                 text += &format!("\n  memory word {address}: second {mine:#018x}, library {theirs:#018x}");
@@ -233,7 +290,7 @@ impl Comparer {
         if !self.lent.guards_stand() {
             text += "\n  words outside of the memory lent were written";
         }
-        Err(Difference(text))
+        text
     }
 
     /// The bench's call, and the conversion of the same bytes. Answers what the bench's call does.

@@ -4,50 +4,9 @@ use crate::compare::Machine;
 use second::image::Record;
 use second::{Descriptor, Instruction, Pointer, Registers, Rules};
 
-/// RING 1, SEGNO 2, WORDNO 2.
-pub fn pointer_bytes(pointer: Pointer) -> [u8; 5] {
-    let [segno_high, segno_low] = pointer.segno.to_be_bytes();
-    let [wordno_high, wordno_low] = pointer.wordno.to_be_bytes();
-    [pointer.ring, segno_high, segno_low, wordno_high, wordno_low]
-}
-
-/// The ST record. A switch that no byte holds is refused as 255 is.
-pub fn st(registers: &Registers) -> Vec<u8> {
-    let mut record = stored_st(registers);
-    record.push(u8::try_from(registers.fault_switch).unwrap_or(u8::MAX));
-    record.extend(registers.save_segment.to_be_bytes());
-    record.extend(registers.handler_segment.to_be_bytes());
-    record
-}
-
-/// The ST record of a stored image, without switch and segments.
-pub fn stored_st(registers: &Registers) -> Vec<u8> {
-    let mut record = b"ST".to_vec();
-    record.extend(registers.a.to_be_bytes());
-    record.extend(registers.dbr.address.to_be_bytes());
-    record.extend(registers.dbr.length.to_be_bytes());
-    record.extend(pointer_bytes(registers.ipr));
-    for pr in registers.pr {
-        record.extend(pointer_bytes(pr));
-    }
-    record
-}
-
 /// The machine as an image: ME, ST, the words that aren't zero, RN.
 pub fn image(machine: &Machine) -> Vec<u8> {
-    let mut image = b"ME".to_vec();
-    image.extend((machine.memory.len() as u32).to_be_bytes());
-    image.extend(st(&machine.registers));
-    for (address, word) in machine.memory.iter().enumerate() {
-        if *word != 0 {
-            image.extend(b"WD");
-            image.extend((address as u32).to_be_bytes());
-            image.extend(word.to_be_bytes());
-        }
-    }
-    image.extend(b"RN");
-    image.extend(machine.budget.to_be_bytes());
-    image
+    second::image::write_image(&machine.registers, &machine.memory, machine.budget)
 }
 
 /// An image's whole records, by the rules under which they go further, and the bytes behind them.

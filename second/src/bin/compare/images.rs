@@ -1,8 +1,9 @@
 //! Images for the bench's call: whole, damaged, and every short sequence of records.
 
 use crate::compare::{Comparer, Difference, Machine};
-use crate::describe::{self, pointer_bytes, st, stored_st};
+use crate::describe;
 use crate::random::Random;
+use second::image::{pointer_bytes, st, stored_st};
 use second::{Dbr, Descriptor, Instruction, Pointer, PointerWord, Rules};
 
 /// An image, the buffer's length, and what differs.

@@ -1,7 +1,7 @@
 //! The C library, called as its header says.
 
 use crate::random::Random;
-use second::{Check, Dbr, Fault, Pointer, Registers, Reply};
+use second::{Check, Dbr, Fault, Pointer, Registers, Reply, Row};
 
 #[repr(C)]
 #[derive(Clone, Copy, Default, PartialEq, Eq)]
@@ -56,6 +56,26 @@ struct CCheck {
     pointer: CReplyPointer,
 }
 
+/// A row of a table of brackets; it has no padding.
+#[repr(C)]
+#[derive(Clone, Copy, PartialEq, Eq)]
+struct CRow {
+    first: u16,
+    last: u16,
+    r1: u8,
+    r2: u8,
+    r3: u8,
+    read: u8,
+    write: u8,
+    execute: u8,
+}
+
+impl From<Row> for CRow {
+    fn from(Row { first, last, r1, r2, r3, read, write, execute }: Row) -> CRow {
+        CRow { first, last, r1, r2, r3, read, write, execute }
+    }
+}
+
 const _: () = assert!(std::mem::size_of::<CRegisters>() == 80);
 const _: () = assert!(std::mem::align_of::<CRegisters>() == 8);
 const _: () = assert!(std::mem::offset_of!(CRegisters, prs) == 22);
@@ -68,6 +88,10 @@ const _: () = assert!(std::mem::offset_of!(CReply, pointer_words) == 24);
 const _: () = assert!(std::mem::offset_of!(CReplyPointer, segment) == 2);
 const _: () = assert!(std::mem::size_of::<CCheck>() == 20);
 const _: () = assert!(std::mem::offset_of!(CCheck, pointer) == 12);
+const _: () = assert!(std::mem::size_of::<CRow>() == 10);
+const _: () = assert!(std::mem::align_of::<CRow>() == 2);
+const _: () = assert!(std::mem::offset_of!(CRow, r1) == 4);
+const _: () = assert!(std::mem::offset_of!(CRow, execute) == 9);
 
 extern "C" {
     fn kuzhlemor_step(registers: *mut CRegisters, memory: *mut u64, words: usize) -> CReply;
@@ -82,6 +106,14 @@ extern "C" {
         segment: u16,
         word: u16,
     ) -> CCheck;
+    fn kuzhlemor_set_brackets(
+        memory: *mut u64,
+        words: usize,
+        dbr_address: u32,
+        dbr_length: u16,
+        rows: *const CRow,
+        row_count: usize,
+    ) -> u32;
 }
 
 /// A reply as the library gives it; it may be one that no `Reply` is.
@@ -149,27 +181,27 @@ impl CheckAnswer {
 
 const GUARD: usize = 8;
 const GUARD_WORD: u64 = 0x5a17_c0de_0bad_f00d;
+/// No table has it: who reads it as a row answers 53.
+const GUARD_ROW: CRow = CRow { first: 65_535, last: 0, r1: 255, r2: 254, r3: 253, read: 252, write: 251, execute: 250 };
 
 /// A machine in the library's hands: its record, and its memory between words that it must leave alone. The record's
-/// padding, which carries nothing, is drawn before each call.
+/// padding, which carries nothing, is drawn before each call. Rows stand between two that aren't lent.
 pub struct Lent {
     record: CRegisters,
     words: Vec<u64>,
+    rows: Vec<CRow>,
     padding: Random,
 }
 
 impl Lent {
     /// Another seed, other padding.
     pub fn new(seed: u64) -> Lent {
-        Lent { record: CRegisters::default(), words: Vec::new(), padding: Random::new(seed) }
+        Lent { record: CRegisters::default(), words: Vec::new(), rows: Vec::new(), padding: Random::new(seed) }
     }
 
     /// Lends these.
     pub fn set(&mut self, registers: &Registers, memory: &[u64]) {
-        self.words.clear();
-        self.words.extend_from_slice(&[GUARD_WORD; GUARD]);
-        self.words.extend_from_slice(memory);
-        self.words.extend_from_slice(&[GUARD_WORD; GUARD]);
+        self.set_memory(memory);
         let pointer = |pointer: Pointer| CPointer {
             ring: pointer.ring,
             padding: 0,
@@ -188,6 +220,14 @@ impl Lent {
             handler_segment: registers.handler_segment,
             padding: [0; 2],
         };
+    }
+
+    /// Lends this, for a call without registers.
+    pub fn set_memory(&mut self, memory: &[u64]) {
+        self.words.clear();
+        self.words.extend_from_slice(&[GUARD_WORD; GUARD]);
+        self.words.extend_from_slice(memory);
+        self.words.extend_from_slice(&[GUARD_WORD; GUARD]);
     }
 
     fn draw_padding(&mut self) {
@@ -250,6 +290,25 @@ impl Lent {
         let CCheck { kind, number, ring, pointer } =
             unsafe { kuzhlemor_may_call(record, self.words.as_mut_ptr().add(GUARD), words, ring, segno, wordno) };
         (CheckAnswer { kind, number, ring, pointer: pointer.into() }, self.record == before)
+    }
+
+    /// The table of brackets, and whether its rows and those around them are what they were.
+    pub fn set_brackets(&mut self, dbr: Dbr, rows: &[Row]) -> (u32, bool) {
+        let lent = || {
+            let rows = rows.iter().copied().map(CRow::from);
+            std::iter::once(GUARD_ROW).chain(rows).chain(std::iter::once(GUARD_ROW))
+        };
+        self.rows.clear();
+        self.rows.extend(lent());
+        let words = self.words.len() - 2 * GUARD;
+        // As in `may_call`, the rows could be written here.
+        let (first_word, first_row) = (self.words.as_mut_ptr(), self.rows.as_mut_ptr());
+        // SAFETY: `words` words and so many rows, aligned, lent alone for the call.
+        let answer = unsafe {
+            let (memory, lent_rows) = (first_word.add(GUARD), first_row.add(1));
+            kuzhlemor_set_brackets(memory, words, dbr.address, dbr.length, lent_rows, rows.len())
+        };
+        (answer, lent().eq(self.rows.iter().copied()))
     }
 }
 

@@ -1,5 +1,5 @@
 //! Compares the second implementation with libkuzhlemor.a: `compare quick`, or `compare long N [SEED]`, which draws
-//! N machines and N images beside the directed ones.
+//! N machines, N images and N tables of brackets beside the directed ones.
 
 mod checks;
 mod compare;
@@ -14,7 +14,9 @@ mod random;
 mod reach;
 mod repeats;
 mod secrecy;
+mod tables;
 
+use std::ffi::OsStr;
 use std::path::Path;
 use std::process::ExitCode;
 use std::time::Instant;
@@ -24,6 +26,8 @@ use directed::Pairs;
 use generator::{budget, Generator};
 use kept::Input;
 use random::Random;
+use second::tables::{rows_bytes, Table};
+use second::Registers;
 use secrecy::{Leak, Secrecy};
 
 /// How much of each kind to compare.
@@ -37,6 +41,7 @@ struct Plan {
     /// Images with few addresses, and images of thousands of records.
     few: u64,
     large: u64,
+    tables: u64,
     depth: usize,
 }
 
@@ -55,6 +60,7 @@ fn main() -> ExitCode {
             damaged: 60,
             few: 100_000,
             large: 400,
+            tables: 1_000_000,
             depth: 4,
         },
         (Some("long"), 2 | 3) => match (number(1), number(2)) {
@@ -67,6 +73,7 @@ fn main() -> ExitCode {
                 damaged: 60,
                 few: many / 5,
                 large: 2_000,
+                tables: many,
                 depth: 5,
             },
             _ => {
@@ -122,6 +129,14 @@ fn carry_out(plan: &Plan) -> Result<(), String> {
          gives"
     ));
 
+    // Each part has its own numbers, so that no other part changes what it draws.
+    let mut random = Random::new(plan.seed.rotate_left(24));
+    let (count, rings) =
+        tables::directed(&mut comparer, &mut random).map_err(|failure| table_differs(plan, *failure))?;
+    clock.part(&format!(
+        "directed: {count} tables of brackets, {rings} over all rings, with the answers and memories that 02 gives"
+    ));
+
     let count = repeats::directed(&mut comparer).map_err(|(name, (image, length, difference))| {
         image_differs(plan, &mut Comparer::new(), &name, image, length, difference)
     })?;
@@ -129,7 +144,6 @@ fn carry_out(plan: &Plan) -> Result<(), String> {
 
     kept_inputs(plan, &mut comparer, &mut clock)?;
 
-    // Each part has its own numbers, so that no other part changes what it draws.
     let mut random = Random::new(plan.seed);
     let mut pairs = Pairs::new();
     let mut count = 0;
@@ -154,12 +168,9 @@ fn carry_out(plan: &Plan) -> Result<(), String> {
     }
     clock.part(&format!("random: {} machines", plan.machines));
 
-    if let Some(path) = std::env::var_os("KUZHLEMOR_MAY_CALL") {
-        let mut random = Random::new(plan.seed.rotate_left(48));
-        let count =
-            program::may_call(&path, &mut random, &mut generator).map_err(|failure| program_differs(plan, failure))?;
-        clock.part(&format!("the program may_call: {count} inputs"));
-    }
+    drawn_tables(plan, &mut comparer, &mut clock)?;
+
+    programs(plan, &mut generator, &mut clock)?;
 
     let mut random = Random::new(plan.seed.rotate_left(16));
     let mut secrecy = Secrecy::new();
@@ -187,8 +198,9 @@ fn carry_out(plan: &Plan) -> Result<(), String> {
     if !missed.is_empty() {
         return Err(format!("compare: none different, but never reached: {}", missed.join(", ")));
     }
-    let (machines, images, checks) = (comparer.machines + 2 * secrecy.pairs, comparer.images, comparer.checks);
-    println!("compare: {machines} machines, {images} images, {checks} checks, none different");
+    let Comparer { images, checks, tables, .. } = comparer;
+    let machines = comparer.machines + 2 * secrecy.pairs;
+    println!("compare: {machines} machines, {images} images, {checks} checks, {tables} tables, none different");
     Ok(())
 }
 
@@ -274,6 +286,36 @@ fn all_images(
     Ok(())
 }
 
+fn drawn_tables(plan: &Plan, comparer: &mut Comparer, clock: &mut Clock) -> Result<(), String> {
+    let mut random = Random::new(plan.seed.rotate_left(8));
+    let mut table = Table::default();
+    for count in 0..plan.tables {
+        let mut random = Random::new(random.next());
+        tables::draw(&mut random, &mut table);
+        if let Err(difference) = comparer.table(&table, &mut random) {
+            return Err(table_differs(plan, (format!("table {count}"), table, difference)));
+        }
+    }
+    clock.part(&format!("random: {} tables of brackets", plan.tables));
+    Ok(())
+}
+
+/// The laptop's programs that the environment names.
+fn programs(plan: &Plan, generator: &mut Generator, clock: &mut Clock) -> Result<(), String> {
+    type Compare = fn(&OsStr, &mut Random, &mut Generator) -> Result<usize, program::Failure>;
+    let programs: [(&str, &str, u32, Compare); 2] = [
+        ("may_call", "KUZHLEMOR_MAY_CALL", 48, program::may_call),
+        ("brackets", "KUZHLEMOR_BRACKETS", 40, program::brackets),
+    ];
+    for (name, variable, rotation, compare) in programs {
+        let Some(path) = std::env::var_os(variable) else { continue };
+        let mut random = Random::new(plan.seed.rotate_left(rotation));
+        let count = compare(&path, &mut random, generator).map_err(|failure| program_differs(plan, name, failure))?;
+        clock.part(&format!("the program {name}: {count} inputs"));
+    }
+    Ok(())
+}
+
 /// Writes a failing input's image and description; answers the text.
 fn write_out(name: &str, images: &[(&str, Vec<u8>)], text: String) -> String {
     let mut text = text;
@@ -300,9 +342,22 @@ fn machine_differs(plan: &Plan, (name, machine, first): directed::Failure) -> St
     write_out(&format!("failing-{}", plan.seed), &[("", describe::image(&smaller))], text)
 }
 
-fn program_differs(plan: &Plan, (name, input, difference): program::Failure) -> String {
-    let text = format!("compare: DIFFERENT, in {name}, of {} bytes\n{}", input.len(), difference.0);
-    write_out(&format!("failing-{}", plan.seed), &[("-may-call", input)], text)
+fn program_differs(plan: &Plan, program: &str, (name, input, difference): program::Failure) -> String {
+    let text = format!("compare: {program} DIFFERENT, in {name}, of {} bytes\n{}", input.len(), difference.0);
+    write_out(&format!("failing-{}", plan.seed), &[(&format!("-{program}"), input)], text)
+}
+
+/// It is written as the program's input.
+fn table_differs(plan: &Plan, (name, table, first): tables::Failure) -> String {
+    let mut comparer = Comparer::new();
+    let mut compare = |table: &Table| comparer.table(table, &mut Random::new(3));
+    let smaller = tables::shrink(table, &mut |table| compare(table).is_err());
+    let difference = compare(&smaller).err().unwrap_or(first);
+    let text = format!("compare: DIFFERENT, in {name}\n{}\n{}", difference.0, tables::describe(&smaller));
+    let Table { memory, dbr, rows } = smaller;
+    let machine = Machine { registers: Registers { dbr, ..Registers::default() }, memory, budget: 0 };
+    let input = [rows_bytes(&rows), describe::image(&machine)].concat();
+    write_out(&format!("failing-{}", plan.seed), &[("-table", input)], text)
 }
 
 fn leaks(plan: &Plan, (difference, n, one, two): Leak) -> String {

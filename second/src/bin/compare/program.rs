@@ -1,4 +1,5 @@
-//! The laptop's program that asks whether a call would pass, against the text of the second implementation.
+//! The laptop's programs that ask whether a call would pass and that set brackets, against what the second implementation
+//! writes.
 
 use std::ffi::OsStr;
 use std::io::{self, Write};
@@ -6,11 +7,14 @@ use std::process::{Command, Stdio};
 
 use crate::checks;
 use crate::compare::{Difference, Machine};
-use crate::describe::{self, pointer_bytes};
+use crate::describe;
 use crate::generator::Generator;
 use crate::images;
 use crate::random::Random;
+use crate::tables;
 use second::calls;
+use second::image::pointer_bytes;
+use second::tables::{cases, inputs, rows_bytes, Input};
 
 /// The name of an input, its bytes, and what differs.
 pub type Failure = (String, Vec<u8>, Difference);
@@ -18,56 +22,135 @@ pub type Failure = (String, Vec<u8>, Difference);
 /// How many are drawn beside the directed ones.
 const DRAWN: usize = 2_000;
 
-/// The directed inputs with the texts that were worked out by hand, and drawn ones; answers how many.
-pub fn may_call(program: &OsStr, random: &mut Random, generator: &mut Generator) -> Result<usize, Failure> {
-    let mut count = 0;
-    let mut ask = |name: String, input: Vec<u8>, expected: String| {
-        count += 1;
-        let difference = match output(program, &input) {
-            Ok(text) if text == expected.as_bytes() => return Ok(()),
-            Ok(text) => format!("second prints {expected:?}, the program {:?}", String::from_utf8_lossy(&text)),
-            Err(error) => format!("{}: {error}", program.to_string_lossy()),
+/// A program, and how many inputs it has had.
+struct Asked<'p> {
+    program: &'p OsStr,
+    inputs: usize,
+}
+
+impl<'p> Asked<'p> {
+    fn new(program: &'p OsStr) -> Asked<'p> {
+        Asked { program, inputs: 0 }
+    }
+
+    /// Does the program write this?
+    fn ask(&mut self, name: String, input: Vec<u8>, expected: &[u8]) -> Result<(), Failure> {
+        self.inputs += 1;
+        let difference = match output(self.program, &input) {
+            Ok(written) if written == expected => return Ok(()),
+            Ok(written) => differs(expected, &written),
+            Err(error) => format!("{}: {error}", self.program.to_string_lossy()),
         };
         Err((name, input, Difference(difference)))
-    };
+    }
+}
+
+/// Both outputs around the first byte that differs.
+fn differs(mine: &[u8], theirs: &[u8]) -> String {
+    let first = mine.iter().zip(theirs).take_while(|(mine, theirs)| mine == theirs).count();
+    let start = first.saturating_sub(40);
+    let shown = |bytes: &[u8]| bytes[start..(first + 40).min(bytes.len())].escape_ascii().to_string();
+    format!(
+        "second writes {} bytes, the program {}; from byte {start} on\n  second  \"{}\"\n  program \"{}\"",
+        mine.len(),
+        theirs.len(),
+        shown(mine),
+        shown(theirs)
+    )
+}
+
+/// The directed inputs with the texts that were worked out by hand, and drawn ones; answers how many.
+pub fn may_call(program: &OsStr, random: &mut Random, generator: &mut Generator) -> Result<usize, Failure> {
+    let mut asked = Asked::new(program);
     for calls::Input { name, bytes, text } in calls::inputs() {
-        ask(name, bytes, text)?;
+        asked.ask(name, bytes, text.as_bytes())?;
     }
     for case in calls::cases() {
         if let Some(input) = case.input() {
             let text = case.text();
-            ask(case.name, input, text)?;
+            asked.ask(case.name, input, text.as_bytes())?;
         }
     }
     for number in 0..DRAWN {
-        let input = drawn(random, generator);
+        let input = drawn_pointer(random, generator);
         let text = second::may_call_text(&input);
-        ask(format!("drawn input {number}"), input, text)?;
+        asked.ask(format!("drawn input {number}"), input, text.as_bytes())?;
     }
-    Ok(count)
+    Ok(asked.inputs)
 }
 
-/// A pointer and the image of a machine without code, which isn't run: as it is, with its records in some order, or
-/// damaged. Few end in the pointer.
-fn drawn(random: &mut Random, generator: &mut Generator) -> Vec<u8> {
+/// The same for tables of brackets. What is written for an accepted one must also mean what it should.
+pub fn brackets(program: &OsStr, random: &mut Random, generator: &mut Generator) -> Result<usize, Failure> {
+    let mut asked = Asked::new(program);
+    for Input { name, bytes, output } in inputs().into_iter().chain(cases().iter().filter_map(|case| case.input())) {
+        asked.ask(name, bytes, &output)?;
+    }
+    for number in 0..DRAWN {
+        let input = drawn_table(random, generator);
+        let written = second::brackets_output(&input);
+        let name = format!("drawn input {number}");
+        if let Ok(image) = second::brackets::with_brackets(&input) {
+            if second::read_image(&written) != Ok(image) {
+                let difference = Difference("what second writes doesn't load as it should".to_string());
+                return Err((name, input, difference));
+            }
+        }
+        asked.ask(name, input, &written)?;
+    }
+    Ok(asked.inputs)
+}
+
+/// A machine without code, which isn't run.
+fn drawn_machine(random: &mut Random, generator: &mut Generator) -> Machine {
     let mut machine = Machine::default();
     generator.draw(random, &mut machine, 0);
     machine.budget = random.pick(&[0, 1, 1_000_000, u32::MAX]);
+    machine
+}
+
+/// Its image: as it is, with its records in some order, or damaged.
+fn drawn_image(random: &mut Random, machine: &Machine) -> Vec<u8> {
+    match random.below(4) {
+        0 => images::damaged_image(random, machine),
+        1 => images::records(random, machine).concat(),
+        _ => describe::image(machine),
+    }
+}
+
+/// A pointer and an image. Few end in the pointer.
+fn drawn_pointer(random: &mut Random, generator: &mut Generator) -> Vec<u8> {
+    let machine = drawn_machine(random, generator);
     let mut pointers = Vec::new();
     checks::draw(random, &machine.registers, &machine.memory, 1, &mut pointers);
     let mut input = pointer_bytes(pointers[0]).to_vec();
-    input.extend(match random.below(4) {
-        0 => images::damaged_image(random, &machine),
-        1 => images::records(random, &machine).concat(),
-        _ => describe::image(&machine),
-    });
+    input.extend(drawn_image(random, &machine));
     if random.chance(10) {
         input.truncate(random.below(6));
     }
     input
 }
 
-/// What the program prints for this input.
+/// A table, which mostly fits, and an image. Few end in the table or somewhere else.
+fn drawn_table(random: &mut Random, generator: &mut Generator) -> Vec<u8> {
+    let machine = drawn_machine(random, generator);
+    let length = machine.registers.dbr.length;
+    let mut rows = Vec::new();
+    tables::cover(random, length, &mut rows);
+    if random.chance(400) {
+        tables::damage(random, length, &mut rows);
+    }
+    let mut input = rows_bytes(&rows);
+    let table_length = input.len();
+    input.extend(drawn_image(random, &machine));
+    match random.below(50) {
+        0 => input.truncate(random.below(table_length + 1)),
+        1 => input.truncate(random.below(input.len())),
+        _ => {}
+    }
+    input
+}
+
+/// What the program writes for this input.
 fn output(program: &OsStr, input: &[u8]) -> io::Result<Vec<u8>> {
     let mut child = Command::new(program).stdin(Stdio::piped()).stdout(Stdio::piped()).spawn()?;
     if let Some(mut stdin) = child.stdin.take() {

@@ -5,7 +5,8 @@ use std::collections::BTreeMap;
 use crate::compare::Machine;
 use second::image::{self, Record};
 use second::opcodes::RCU;
-use second::{Check, Fault, Opcode, Pointer, Registers, Reply, Rules};
+use second::tables::Table;
+use second::{Check, Fault, Opcode, Pointer, Registers, Reply, Row, Rules};
 
 /// The questions of a machine, and those of an image: a memory of at most 8,192 words has no 1.
 pub const QUESTIONS: [u8; 24] =
@@ -340,6 +341,122 @@ impl StackBases {
     }
 }
 
+/// What refuses a table of brackets before its segments are looked at: a number, why, and whether it is so.
+type Cause = (u32, &'static str, fn(&Table) -> bool);
+
+const CAUSES: [Cause; 9] = [
+    (1, "words", |table| table.memory.len() > 16_777_216),
+    (4, "LENGTH above 4096", |table| table.dbr.length > 4_096),
+    (4, "the end behind memory", |table| {
+        u64::from(table.dbr.address) + u64::from(table.dbr.length) > table.memory.len() as u64
+    }),
+    (53, "more than 32 rows", |table| table.rows.len() > 32),
+    (53, "first above last", |table| table.rows.iter().any(|row| row.first > row.last)),
+    (53, "last not below LENGTH", |table| table.rows.iter().any(|row| row.last >= table.dbr.length)),
+    (53, "R1 above R2", |table| table.rows.iter().any(|row| row.r1 > row.r2)),
+    (53, "R2 above R3", |table| table.rows.iter().any(|row| row.r2 > row.r3)),
+    (53, "R3 above 7", |table| table.rows.iter().any(|row| row.r3 > 7)),
+];
+
+/// What tables of brackets were answered.
+#[derive(Default)]
+struct Tables {
+    /// Refused by this cause and no other of its number.
+    causes: [u64; CAUSES.len()],
+    /// Refused by 1 where 4 and 53 are no as well, and by 4 where 53 is.
+    before_others: [u64; 2],
+    /// Refused by 53 where 54, 55 or nothing would be next.
+    after_53: [u64; 3],
+    /// 54 and 55: alone, and with a segment above that the other is for.
+    in_no_row: [u64; 2],
+    in_several: [u64; 2],
+    in_three: u64,
+    /// Accepted, by the number of rows: 0, 1, 2 to 31, 32.
+    accepted: [u64; 4],
+}
+
+impl Tables {
+    fn answered(&mut self, table: &Table, answer: u32) {
+        match answer {
+            0 => self.accepted[[1, 2, 32].iter().filter(|least| **least <= table.rows.len()).count()] += 1,
+            1 | 4 | 53 => self.by_cause(table, answer),
+            _ => {}
+        }
+        // With 1 or 4 there may be no descriptors.
+        if !matches!(answer, 53..=55) {
+            return;
+        }
+        let AtFault { in_none, in_several, in_three } = at_fault(table);
+        let is_none_first = in_none.is_some_and(|segno| in_several.is_none_or(|other| segno < other));
+        match answer {
+            53 if is_none_first => self.after_53[0] += 1,
+            53 => self.after_53[1 + usize::from(in_several.is_none())] += 1,
+            54 => self.in_no_row[usize::from(in_several.is_some())] += 1,
+            _ => {
+                self.in_several[usize::from(in_none.is_some())] += 1;
+                self.in_three += u64::from(in_three);
+            }
+        }
+    }
+
+    fn by_cause(&mut self, table: &Table, answer: u32) {
+        let is_so = CAUSES.map(|(_, _, is_so)| is_so(table));
+        let of_number =
+            |number| CAUSES.iter().zip(is_so).filter(move |((of, ..), is_so)| *is_so && *of == number).count();
+        for (count, ((number, ..), is_so)) in self.causes.iter_mut().zip(CAUSES.iter().zip(is_so)) {
+            *count += u64::from(is_so && *number == answer && of_number(answer) == 1);
+        }
+        self.before_others[0] += u64::from(answer == 1 && of_number(4) > 0 && of_number(53) > 0);
+        self.before_others[1] += u64::from(answer == 4 && of_number(53) > 0);
+    }
+
+    fn print(&self, missed: &mut Vec<String>) {
+        let causes = CAUSES.iter().map(|(number, name, _)| format!("{number} of a table, {name}")).zip(self.causes);
+        let [before_4_and_53, before_53] = self.before_others;
+        let [before_54, before_55, last] = self.after_53;
+        let others = [
+            ("1 before 4 and 53", before_4_and_53),
+            ("4 before 53", before_53),
+            ("53 before 54", before_54),
+            ("53 before 55", before_55),
+            ("53 where all segments fit", last),
+            ("54 alone", self.in_no_row[0]),
+            ("54 below 55", self.in_no_row[1]),
+            ("55 alone", self.in_several[0]),
+            ("55 below 54", self.in_several[1]),
+            ("55, some in three rows", self.in_three),
+            ("0 rows accepted", self.accepted[0]),
+            ("1 row accepted", self.accepted[1]),
+            ("2 to 31 rows accepted", self.accepted[2]),
+            ("32 rows accepted", self.accepted[3]),
+        ];
+        print_row(causes.chain(others.map(|(name, count)| (name.to_string(), count))), missed);
+    }
+}
+
+/// The lowest segment in no row, the lowest in several, and whether any is in three.
+struct AtFault {
+    in_none: Option<u16>,
+    in_several: Option<u16>,
+    in_three: bool,
+}
+
+fn at_fault(table: &Table) -> AtFault {
+    let mut at_fault = AtFault { in_none: None, in_several: None, in_three: false };
+    for segno in 0..table.dbr.length {
+        let is_in = |row: &&Row| (row.first..=row.last).contains(&segno);
+        let rows = table.rows.iter().filter(is_in).count();
+        let lowest = match rows {
+            0 => &mut at_fault.in_none,
+            1 => continue,
+            _ => &mut at_fault.in_several,
+        };
+        lowest.get_or_insert(segno);
+        at_fault.in_three |= rows > 2;
+    }
+    at_fault
+}
+
 /// The questions of a stored image.
 const STORED_QUESTIONS: [u8; 7] = [41, 42, 43, 44, 2, 3, 4];
 
@@ -428,6 +545,7 @@ pub struct Reach {
     conversions: Conversions,
     checks: Checks,
     stack_bases: StackBases,
+    tables: Tables,
     changed_memory: u64,
     changed_descriptors: u64,
     changed_dbr: u64,
@@ -450,6 +568,7 @@ impl Reach {
             conversions: Conversions::default(),
             checks: Checks::new(),
             stack_bases: StackBases::default(),
+            tables: Tables::default(),
             changed_memory: 0,
             changed_descriptors: 0,
             changed_dbr: 0,
@@ -541,6 +660,11 @@ impl Reach {
         }
     }
 
+    /// What a table of brackets was answered.
+    pub fn table(&mut self, table: &Table, answer: u32) {
+        self.tables.answered(table, answer);
+    }
+
     /// Prints the tables; answers what was never reached.
     pub fn print(&self) -> Vec<String> {
         let mut missed = Vec::new();
@@ -566,6 +690,8 @@ impl Reach {
         self.checks.print(&mut missed);
         println!("CALLs that moved, by what decides on PR7's segment:");
         self.stack_bases.print(&mut missed);
+        println!("tables of brackets, by what decides:");
+        self.tables.print(&mut missed);
         missed
     }
 }

@@ -1,10 +1,10 @@
--- `read_pointer` meets its contract. Assumes nothing.
+-- `read_whole` meets its contract. Assumes nothing.
 use mathlib.Core.Path.{_≡_}
 use Prim.Native.Nat.{_-_, _≤_}
 use lib.ListN.{length}
 use borrow.Author.Needs.{needs}
-use Rattle.may_call.proofs.read_pointer.Statement.{statement}
-use Rattle.may_call.proofs.read_pointer.Tie as tie
+use Rattle.streams.proofs.read_whole.Statement.{statement}
+use Rattle.streams.proofs.read_whole.Tie as tie
 
 abbrev Inv-loop : tie.InvT-loop
 Inv-loop bytes₀ x₀ bytes x = (length bytes ≡ length bytes₀) × (x .size ≤ length bytes)
@@ -36,8 +36,8 @@ same-length-2 c = search needs
 returns-2 : tie.Need-returns-2 Inv-loop μ-loop
 returns-2 c = search needs
 
-pub read-pointer-spec : {M : Type 1} → statement M
-read-pointer-spec =
+pub read-whole-spec : {M : Type 1} → statement M
+read-whole-spec =
     tie.close
     (tie.spec
     Inv-loop
