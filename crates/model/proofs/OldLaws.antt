@@ -426,6 +426,34 @@ segment-refused y ws d =
       none-below = λ k h. x .none-below k (omega arith);
     }
 
+-- ITS NUMBERS are small
+question-within : (y : Way) (w : ℕ) → form-questions y w ≤ 57
+unfolding form-questions ask
+question-within from-old w = by-test (rest-is-zero w)
+  where
+    by-test : (b : Bool) → ask b 56 0 ≤ 57
+    by-test true = omega arith
+    by-test false = omega arith
+question-within to-old w = by-test (has-old-form (descriptor-in w))
+  where
+    by-test : (b : Bool) → ask b 57 0 ≤ 57
+    by-test true = omega arith
+    by-test false = omega arith
+
+answer-within : (y : Way) (k : ℕ) (ws : List ℕ) → (words-answer y k ws .number ≤ 57) × (words-answer y k ws .index ≤ k + length ws)
+unfolding words-answer or-fails
+answer-within y k [] = (omega arith, omega arith)
+answer-within y k (w ∷ ws) = by-answer (form-questions y w) (question-within y w) (answer-within y (suc k) ws)
+  where
+    by-answer : (n : ℕ) {x : Answer} → n ≤ 57 → (x .number ≤ 57) × (x .index ≤ suc k + length ws) →
+        (or-fails n k x .number ≤ 57) × (or-fails n k x .index ≤ k + suc (length ws))
+    by-answer zero h g = let i = g .1 in (g .0, omega arith)
+    by-answer (suc n) h g = (h, omega arith)
+
+pub conversion-within : (y : Way) (ws : List ℕ) → (convert-words y ws .answer .number ≤ 57) × (convert-words y ws .answer .index ≤ length ws)
+unfolding convert-words
+conversion-within y ws = let x = answer-within y 0 ws in let h = x .1 in (x .0, omega arith)
+
 -- BOTH WAYS ROUND
 module _ (y : Way) where
   answer-back : (k : ℕ) (ws : List ℕ) → ((i : ℕ) → getD ws i 0 < 2 ^ 64) → ((i : ℕ) → i < length ws → form-questions y (getD ws i 0) ≡ 0) →
