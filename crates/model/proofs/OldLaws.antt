@@ -1,20 +1,18 @@
 -- The statements of Renewed. Assumes nothing.
 use mathlib.Core.Path.{_≡_, refl, sym, ap, _∙_}
-use mathlib.Core.Bool.{Bool, true, false, _&&_, _||_, not, cond}
+use mathlib.Core.Bool.{Bool, true, false, _||_, not, cond}
 use mathlib.Core.List.{List, [], _∷_, map}
 use Prim.Native.Nat.{ℕ, zero, suc, _+_, _*_, _/_, _%_, _^_, _≤_, _<_}
 use native.Mathlib.Omega.{arith}
-use lib.Dec.{eqb, leb, ltb}
+use lib.Dec.{eqb}
 use lib.ListN.{length, getD, length-map}
 use borrow.Author.Tests.{eqb-true, eq-eqb, ne-eqb, le-leb, lt-ltb}
 use Rattle.model.specs.Words.{field, on, Descriptor, descriptor-in}
-use Rattle.model.specs.Registers.{Dbr}
 use Rattle.model.specs.Questions.{ask, segment-questions}
 use Rattle.model.specs.Brackets.{Row, flag-bit, bracket-bits, with-brackets}
-use Rattle.model.specs.Bracketing.{Fields-of-row}
-use Rattle.model.specs.Old.{old-descriptor-in, Way, from-old, to-old, rest-is-zero, rings-are, has-old-form, form-questions, renewed-word, old-word, converted-word, Answer, or-fails, words-answer, Converted, convert-words}
-use Rattle.model.specs.Renewed.{Fields-of-old, Renewed-by-fields, Old-by-fields, Renewed-passes, All-converted, Segment-converts, First-failing, Segment-refused, way-back, Comes-back}
-use Rattle.model.proofs.BranchLaws.{by-equality, cond-holds, and-left, and-right, and-both, or-left, or-right, or-rest}
+use Rattle.model.specs.Old.{old-descriptor-in, Way, from-old, to-old, rest-is-zero, rings-are, has-old-form, form-questions, renewed-word, old-word, converted-word, Answer, or-fails, words-answer, convert-words}
+use Rattle.model.specs.Renewed.{Renewed-by-fields, Old-by-fields, Renewed-passes, Segment-converts, Segment-refused, way-back, Comes-back}
+use Rattle.model.proofs.BranchLaws.{and-left, and-right, and-both, or-left, or-right}
 use Rattle.model.proofs.WordLaws.{field-within-width}
 use Rattle.model.proofs.QuestionLaws.{ask-yes}
 use Rattle.model.proofs.BracketLaws.{Row-within}

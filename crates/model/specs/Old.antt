@@ -1,9 +1,9 @@
 -- 02, L9: descriptors of the old benches, which have no rings, made into today's and back. Assumes nothing: these are definitions.
-use mathlib.Core.Bool.{Bool, _&&_, _||_, not, cond}
+use mathlib.Core.Bool.{Bool, _&&_, _||_, cond}
 use mathlib.Core.List.{List, [], _∷_, _++_, map}
 use Prim.Native.Nat.{ℕ, zero, suc, _+_, _*_, _/_, _%_, _^_}
 use lib.Dec.{eqb}
-use lib.ListN.{length, drop}
+use lib.ListN.{length}
 use Rattle.model.specs.Words.{field, on, Descriptor, descriptor-in}
 use Rattle.model.specs.Questions.{yes-to-all, ask}
 use Rattle.model.specs.Image.{number-at}

@@ -1,14 +1,13 @@
 -- Statements on descriptors of the old benches (02, L9): a word by its fields, a segment word by word, and both ways round. Assumes nothing: these are definitions.
 use mathlib.Core.Path.{_≡_}
-use mathlib.Core.Bool.{Bool, true, cond}
+use mathlib.Core.Bool.{true, cond}
 use mathlib.Core.List.{List}
 use Prim.Native.Nat.{ℕ, _+_, _^_, _≤_, _<_}
-use lib.Dec.{eqb}
 use lib.ListN.{length, getD}
 use Rattle.model.specs.Words.{Descriptor, descriptor-in}
 use Rattle.model.specs.Registers.{Dbr}
 use Rattle.model.specs.Questions.{segment-questions}
-use Rattle.model.specs.Old.{OldDescriptor, old-descriptor-in, Way, from-old, to-old, form-questions, renewed-word, old-word, converted-word, Answer, Converted, convert-words}
+use Rattle.model.specs.Old.{OldDescriptor, old-descriptor-in, Way, from-old, to-old, form-questions, renewed-word, old-word, converted-word, convert-words}
 
 -- A WORD BY ITS FIELDS: one of today's has an old one's fields, and the rings that its user says
 pub record Fields-of-old (o : OldDescriptor) (d : Descriptor) : Type 0 where

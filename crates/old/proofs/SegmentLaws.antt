@@ -6,7 +6,7 @@ use native.Mathlib.Numerals.{add-one}
 use native.Mathlib.Omega.{arith}
 use lib.ListN.{length, getD, set, take, drop, drop-of-length-le}
 use lib.Seq.{take-all, drop-cons, append-snoc, take-suc-set, drop-set-lt}
-use borrow.Author.Tests.{eq-eqb, ne-eqb}
+use borrow.Author.Tests.{ne-eqb}
 use Rattle.model.specs.Old.{Way, form-questions, converted-word, Answer, or-fails, words-answer, convert-words}
 use Rattle.model.proofs.OldLaws.{all-written}
 

@@ -2,7 +2,6 @@
 use mathlib.Core.Path.{refl}
 use Rattle.model.specs.Words.{field, descriptor-in}
 use Rattle.model.specs.Old.{rings-are}
-use borrow.Author.Needs.{needs}
 use Rattle.old.proofs.word.are_rings.Statement.{statement}
 use Rattle.old.proofs.word.are_rings.Tie as tie
 

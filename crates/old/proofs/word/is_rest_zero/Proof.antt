@@ -2,7 +2,6 @@
 use mathlib.Core.Path.{refl}
 use Rattle.model.specs.Words.{field}
 use Rattle.model.specs.Old.{rest-is-zero}
-use borrow.Author.Needs.{needs}
 use Rattle.old.proofs.word.is_rest_zero.Statement.{statement}
 use Rattle.old.proofs.word.is_rest_zero.Tie as tie
 
