@@ -33,8 +33,9 @@ module _ (i : ℕ) (ws bs : List ℕ) (z : read-so-far i ws bs) where
   pub word-read : (v : ℕ) → i < length ws → v ≡ number-at (8 * i) 8 bs → read-so-far (i + 1) (set ws i v) bs
   unfolding read-so-far
   word-read v h e =
+      let from-0 : 0 + 8 * i ≡ 8 * i = omega arith in
       ap (λ k. take k (set ws i v)) (add-one i) ∙ take-suc-set ws i v h
-      ∙ (λ j. z j ++ (e j ∷ [])) ∙ sym (words-at-more i 0 bs) ∙ ap (λ k. words-at k 0 bs) (sym (add-one i))
+      ∙ (λ j. z j ++ (e j ∷ [])) ∙ ap (λ k. words-at i 0 bs ++ (number-at k 8 bs ∷ [])) (sym from-0) ∙ sym (words-at-more i 0 bs) ∙ ap (λ k. words-at k 0 bs) (sym (add-one i))
 
   pub words-read : (n : ℕ) → length ws ≡ n → n ≤ i → i ≤ n → ws ≡ words-at n 0 bs
   unfolding read-so-far

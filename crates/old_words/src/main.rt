@@ -60,12 +60,12 @@ fn put_converted(text: &mut [u8], words: &mut [u64], bytes: &[u8], back: bool) -
     put_words(text, words)
 }
 
-fn print_converted(bytes: &[u8], back: bool)
-    requires { ⌜ length (now bytes) ≤ 32768 ⌝ }
+// The way in the first byte, then the words.
+fn print_converted(input: &[u8])
+    requires { ⌜ (1 ≤ length (now input)) × (length (now input) ≤ 32769) ⌝ }
 {
+    let bytes = &input[1..];
     let count = bytes.len() / 8;
-    let mut words = [0u64; 4096];
-    let mut text = [0u8; 32768];
     if 8 * count != bytes.len() {
         io::write_all(
             STDERR_FILENO,
@@ -73,7 +73,9 @@ fn print_converted(bytes: &[u8], back: bool)
         );
         return;
     }
-    let size = put_converted(&mut text, &mut words[..count], bytes, back);
+    let mut words = [0u64; 4096];
+    let mut text = [0u8; 32768];
+    let size = put_converted(&mut text, &mut words[..count], bytes, input[0] != 0);
     io::write_all(STDOUT_FILENO, &text[..size]);
 }
 
@@ -94,5 +96,5 @@ fn main() {
         io::write_all(STDERR_FILENO, b"standard input: more than 4096 words\n");
         return;
     }
-    print_converted(&bytes[1..size], bytes[0] != 0);
+    print_converted(&bytes[..size]);
 }
