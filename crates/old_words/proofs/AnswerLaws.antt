@@ -4,14 +4,16 @@ use mathlib.Core.Bool.{cond}
 use mathlib.Core.List.{List, [], _∷_, _++_}
 use Prim.Native.Nat.{ℕ, _+_, _*_, _/_, _≤_, _<_}
 use native.Mathlib.Omega.{arith}
-use lib.ListN.{length}
+use lib.ListN.{length, take}
+use lib.Seq.{length-take-le}
 use borrow.Author.Tests.{eq-eqb, ne-eqb}
 use Rattle.model.specs.Listing.{ascii, decimal, line}
-use Rattle.model.specs.Old.{Way, words-at, words-bytes, convert-words, converted-text, words-text}
+use Rattle.model.specs.Old.{Way, words-at, words-bytes, Converted, convert-words, converted-text, words-text}
 use Rattle.model.proofs.OldLaws.{conversion-within}
 use Rattle.text.specs.Text.{placed, Put}
 use Rattle.text.proofs.TextLaws.{length-placed, both-put}
 use Rattle.parts.proofs.PartLaws.{ended}
+use Rattle.old_words.proofs.WordsLaws.{length-words-at}
 
 -- A REFUSAL'S LINE
 abbrev refusal : (number index : ℕ) → List ℕ
@@ -28,41 +30,48 @@ refusal-put n k b c d name t₀ t₁ t₂ t₃ e p q x y h =
     let bytes : name ++ (ended n 32 ++ ended k 10) ≡ refusal n k = ap (λ xs. xs ++ (ended n 32 ++ ended k 10)) e in
     subst (λ xs. Put 30 0 xs t₀ t₃ d) bytes (all .0, all .1, omega (arith, all .2))
 
--- THE ANSWER
-module _ (y : Way) (count : ℕ) (ws bs : List ℕ) (read : ws ≡ words-at count 0 bs) (whole : 8 * count ≡ length bs) where
-  text-of-words : converted-text (convert-words y ws) ≡ words-text y bs
+-- THE ANSWER, in the words that are left
+module _ (n k : ℕ) (ws t u : List ℕ) (r : ℕ) where
+  abbrev answered : Converted
+  answered = record { answer = record { number = n; index = k }; words = ws }
+
+  pub refused-put : (n ≡ 0 → ⊥) → Put 30 0 (line (ascii "refused" ∷ decimal n ∷ decimal k ∷ [])) t u r → Put 32768 0 (converted-text answered) t u r
+  unfolding converted-text
+  refused-put d x =
+      subst (λ xs. Put 32768 0 xs t u r) (sym (ap (λ b. cond b (words-bytes ws) (refusal n k)) (ne-eqb n 0 d))) (x .0, x .1, omega (arith, x .2))
+
+  pub words-answered : n ≡ 0 → length ws ≤ 4096 → Put (8 * length ws) 0 (words-bytes ws) t u r → Put 32768 0 (converted-text answered) t u r
+  unfolding converted-text
+  words-answered e l x =
+      subst (λ xs. Put 32768 0 xs t u r) (sym (ap (λ b. cond b (words-bytes ws) (refusal n k)) (eq-eqb n 0 e))) (x .0, x .1, omega (arith, x .2))
+
+pub ruleset answer-laws = (refused-put, words-answered)
+
+-- of the words that the bytes hold
+module _ (y : Way) (ws : List ℕ) (n k : ℕ) (e : record { number = n; index = k } ≡ convert-words y ws .answer) where
+  pub number-short : n < 65536
+  number-short = let h = conversion-within y ws .0 in let z = ap (λ a. a .number) e in omega arith
+
+  pub index-short : (count : ℕ) (bs : List ℕ) → ws ≡ words-at count 0 bs → count ≤ 4096 → k < 65536
+  index-short count bs read l =
+      let h = conversion-within y ws .1 in
+      let z = ap (λ a. a .index) e in
+      omega (arith, ap length read, length-words-at count 0 bs)
+
+  pub text-put : (count : ℕ) (vs bs t u : List ℕ) (r : ℕ) → ws ≡ words-at count 0 bs → 8 * count ≡ length bs → vs ≡ convert-words y ws .words →
+      Put 32768 0 (converted-text (record { answer = record { number = n; index = k }; words = vs })) t u r → Put 32768 0 (words-text y bs) t u r
   unfolding words-text
-  text-of-words =
-      let n : length bs / 8 ≡ count = omega arith in
-      ap (λ xs. converted-text (convert-words y xs)) (read ∙ ap (λ k. words-at k 0 bs) (sym n))
+  text-put count vs bs t u r read whole left x =
+      let m : length bs / 8 ≡ count = omega arith in
+      let same : convert-words y ws ≡ convert-words y (words-at (length bs / 8) 0 bs) = ap (convert-words y) (read ∙ ap (λ j. words-at j 0 bs) (sym m)) in
+      subst (λ xs. Put 32768 0 xs t u r) ((λ i. converted-text (record { answer = e i; words = left i })) ∙ ap converted-text same) x
 
-  module _ (n k : ℕ) (e : record { number = n; index = k } ≡ convert-words y ws .answer) where
-    pub number-short : n < 65536
-    number-short = let h = conversion-within y ws .0 in let z = ap (λ a. a .number) e in omega arith
+pub ruleset text-laws = (number-short, index-short, text-put)
 
-    pub index-short : length ws ≤ 4096 → k < 65536
-    index-short l = let h = conversion-within y ws .1 in let z = ap (λ a. a .index) e in omega arith
+-- the front of what is lent
+module _ (n : ℕ) (xs : List ℕ) (h : n ≤ length xs) where
+  pub front-at-most : {k : ℕ} → n ≤ k → length (take n xs) ≤ k
+  front-at-most g = omega (arith, length-take-le n xs h)
 
-    pub refused-put : (n ≡ 0 → ⊥) → (t u : List ℕ) (r : ℕ) → Put 30 0 (line (ascii "refused" ∷ decimal n ∷ decimal k ∷ [])) t u r → Put 32768 0 (words-text y bs) t u r
-    unfolding converted-text
-    refused-put d t u r x =
-        let words = words-bytes (convert-words y ws .words) in
-        let a = convert-words y ws .answer in
-        let same : refusal n k ≡ words-text y bs =
-        ap (λ z. refusal (z .number) (z .index)) e
-        ∙ sym (ap (λ b. cond b words (refusal (a .number) (a .index))) (ne-eqb (a .number) 0 (λ z. d (ap (λ v. v .number) e ∙ z)))) ∙ text-of-words
-        in
-        subst (λ xs. Put 32768 0 xs t u r) same (x .0, x .1, omega (arith, x .2))
-
-    pub converted-put : n ≡ 0 → (vs t u : List ℕ) (r : ℕ) → vs ≡ convert-words y ws .words → length vs ≤ 4096 → Put (8 * length vs) 0 (words-bytes vs) t u r → Put 32768 0 (words-text y bs) t u r
-    unfolding converted-text
-    converted-put d vs t u r q l x =
-        let words = words-bytes (convert-words y ws .words) in
-        let a = convert-words y ws .answer in
-        let same : words-bytes vs ≡ words-text y bs =
-        ap words-bytes q
-        ∙ sym (ap (λ b. cond b words (refusal (a .number) (a .index))) (eq-eqb (a .number) 0 (sym (ap (λ v. v .number) e) ∙ d))) ∙ text-of-words
-        in
-        subst (λ xs. Put 32768 0 xs t u r) same (x .0, x .1, omega (arith, x .2))
-
-pub ruleset text-laws = (number-short, index-short, refused-put, converted-put)
+  pub front-whole : {k : ℕ} → 8 * n ≡ k → 8 * length (take n xs) ≡ k
+  front-whole e = ap (λ m. 8 * m) (length-take-le n xs h) ∙ e

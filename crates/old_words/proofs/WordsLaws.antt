@@ -22,6 +22,11 @@ words-at-more (suc n) a bs =
     let e : a + 8 + 8 * n ≡ a + 8 * suc n = omega arith in
     ap (λ ws. number-at a 8 bs ∷ ws) (words-at-more n (a + 8) bs ∙ ap (λ k. words-at n (a + 8) bs ++ (number-at k 8 bs ∷ [])) e)
 
+pub length-words-at : (n a : ℕ) (bs : List ℕ) → length (words-at n a bs) ≡ n
+unfolding words-at
+length-words-at zero a bs = refl
+length-words-at (suc n) a bs = ap suc (length-words-at n (a + 8) bs)
+
 unfoldable pub read-so-far : (count : ℕ) → (words bytes : List ℕ) → Type 0
 read-so-far i ws bs = take i ws ≡ words-at i 0 bs
 

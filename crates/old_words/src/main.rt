@@ -5,12 +5,13 @@ ghost use Prim.Native.Nat.{_≤_, _<_, _+_, _*_};
 ghost use lib.ListN.{length};
 ghost use mathlib.Core.List.{[], _∷_};
 ghost use Rattle.model.specs.Listing.{ascii, decimal, line};
-ghost use Rattle.model.specs.Old.{words-at, words-bytes, words-text};
-ghost use Rattle.old.specs.View.{as-way};
+ghost use Rattle.model.specs.Old.{words-at, words-bytes, converted-text, words-text};
+ghost use Rattle.old.specs.View.{as-way, as-answer};
 ghost use Rattle.text.specs.Text.{Put};
 use fields::number::number_8;
 use libc::STDERR_FILENO;
 use libc::STDOUT_FILENO;
+use old::Answer;
 use writing::number::put_number;
 
 // As many words as there is room for, each of 8 bytes.
@@ -47,6 +48,17 @@ fn put_refusal(text: &mut [u8], number: u64, index: u64) -> usize
     parts::put_short(text, at_index, index, 10)
 }
 
+// What a conversion answers and leaves.
+fn put_answer(text: &mut [u8], words: &[u64], answer: Answer) -> usize
+    requires { ⌜ (length (now words) ≤ 4096) × (answer .number < 65536) × (answer .index < 65536) × (32768 ≤ length (now text)) ⌝ }
+    ensures { λ r. ⌜ Put 32768 0 (converted-text (record { answer = as-answer answer; words = now (words .entry) })) (now (text .entry)) (now (text .exit)) r ⌝ }
+{
+    if answer.number != 0 {
+        return put_refusal(text, answer.number, answer.index);
+    }
+    put_words(text, words)
+}
+
 // The words that the bytes hold, converted, or what refuses them.
 fn put_converted(text: &mut [u8], words: &mut [u64], bytes: &[u8], back: bool) -> usize
     requires { ⌜ (8 * length (now words) ≡ length (now bytes)) × (length (now words) ≤ 4096) × (32768 ≤ length (now text)) ⌝ }
@@ -54,17 +66,12 @@ fn put_converted(text: &mut [u8], words: &mut [u64], bytes: &[u8], back: bool) -
 {
     read_words(words, bytes);
     let x = old::convert_words(words, back);
-    if x.number != 0 {
-        return put_refusal(text, x.number, x.index);
-    }
-    put_words(text, words)
+    put_answer(text, words, x)
 }
 
-// The way in the first byte, then the words.
-fn print_converted(input: &[u8])
-    requires { ⌜ (1 ≤ length (now input)) × (length (now input) ≤ 32769) ⌝ }
+fn print_converted(bytes: &[u8], back: bool)
+    requires { ⌜ length (now bytes) ≤ 32768 ⌝ }
 {
-    let bytes = &input[1..];
     let count = bytes.len() / 8;
     if 8 * count != bytes.len() {
         io::write_all(
@@ -75,26 +82,37 @@ fn print_converted(input: &[u8])
     }
     let mut words = [0u64; 4096];
     let mut text = [0u8; 32768];
-    let size = put_converted(&mut text, &mut words[..count], bytes, input[0] != 0);
+    let size = put_converted(&mut text, &mut words[..count], bytes, back);
     io::write_all(STDOUT_FILENO, &text[..size]);
 }
 
-// The way in one byte, 0 from old to today's and any other back; then at most 4,096 words, of 8 bytes each, high byte first.
-fn main() {
-    let mut bytes = [0u8; 32770];
+// Reads the words; with one byte more than fits there are too many.
+fn convert_input(back: bool) {
+    let mut bytes = [0u8; 32769];
     let x = streams::read_whole(&mut bytes);
     if x.has_failed {
         os::fail(b"standard input");
         return;
     }
     let size = x.size;
-    if size == 0 {
-        io::write_all(STDERR_FILENO, b"standard input: it is empty\n");
-        return;
-    }
-    if size > 32769 {
+    if size > 32768 {
         io::write_all(STDERR_FILENO, b"standard input: more than 4096 words\n");
         return;
     }
-    print_converted(&bytes[..size]);
+    print_converted(&bytes[..size], back);
+}
+
+// The way in one byte, 0 from old to today's and any other back; then at most 4,096 words, of 8 bytes each, high byte first.
+fn main() {
+    let mut way = [0u8; 1];
+    let x = streams::read_whole(&mut way);
+    if x.has_failed {
+        os::fail(b"standard input");
+        return;
+    }
+    if x.size < 1 {
+        io::write_all(STDERR_FILENO, b"standard input: it is empty\n");
+        return;
+    }
+    convert_input(way[0] != 0);
 }

@@ -39,7 +39,10 @@ loop-less : tie.Need-loop-less Inv-loop μ-loop
 loop-less c = search (needs, put-laws)
 
 loop-again : tie.Need-loop-again Inv-loop μ-loop
-loop-again c = search (needs, put-laws)
+loop-again c =
+    let at-loop = c .before .before .before .before .before .before in
+    let rest = word-put _ _ _ _ (at-loop .loop .inv .3) _ _ (search needs) (search needs) (c .before .before .put-number .ensures) in
+    (search needs, search needs, search needs, rest)
 
 mul-result : tie.Need-mul-result Inv-loop μ-loop
 mul-result c = search (needs, put-laws)
