@@ -7,8 +7,7 @@ use lib.ListN.{length, take}
 use lib.Seq.{length-take-le}
 use Rattle.model.specs.Questions.{start-questions}
 use Rattle.model.specs.Image as Image
-use Rattle.machine.specs.declared.Prepared.{Prepared}
-use Rattle.machine.specs.Answered.{Prepared-as}
+use Rattle.host.specs.Record.{machine-of, delivery-of}
 use Rattle.loading.specs.declared.Loading.{Loading}
 use Rattle.loading.specs.View.{as-loading, Loading-within}
 use Rattle.image.proofs.LoadLaws.{words-within, loaded-delivery, loaded-machine}
@@ -20,8 +19,8 @@ module _ (l : Loading) (m : List ℕ) (w : Loading-within l m) (h : l .«has_mem
   pub memory-part-size : l .words ≡ length (take (l .words) m)
   memory-part-size = sym (length-take-le (l .words) m memory-part)
 
-  pub judged-by : l .«has_registers» ≡ true → (x : Prepared) (m-now : List ℕ) → Prepared-as (l .registers) (take (l .words) m) x m-now →
-      x .number ≡ start-questions (as-loading l m .delivery) (Image.machine-of (as-loading l m))
-  judged-by g x m-now p = p .asked ∙ ap₂ start-questions (sym (loaded-delivery l m)) (sym (loaded-machine l m h g))
+  pub judged-by : l .«has_registers» ≡ true → (n : ℕ) → n ≡ start-questions (delivery-of (l .registers)) (machine-of (l .registers) (take (l .words) m)) →
+      n ≡ start-questions (as-loading l m .delivery) (Image.machine-of (as-loading l m))
+  judged-by g n e = e ∙ ap₂ start-questions (sym (loaded-delivery l m)) (sym (loaded-machine l m h g))
 
 pub ruleset judges = (memory-part, memory-part-size, judged-by)

@@ -29,14 +29,13 @@ pub struct Converted {
 }
 
 // 1 to 4 of what an image recorded.
-fn judge(loading: Loading, store: &mut [u64]) -> u8
+fn judge(loading: Loading, store: &[u64]) -> u8
     requires { ⌜ Loading-within loading (now store) × (loading .«has_memory» ≡ true) × (loading .«has_registers» ≡ true) ⌝ }
-    ensures { λ n. ⌜ (n ≡ start-questions (as-loading loading (now (store .entry)) .delivery) (machine-of (as-loading loading (now (store .entry))))) × (length (now (store .exit)) ≡ length (now (store .entry))) ⌝ }
+    ensures { λ n. ⌜ n ≡ start-questions (as-loading loading (now (store .entry)) .delivery) (machine-of (as-loading loading (now (store .entry)))) ⌝ }
 {
     let words = loading.words as usize;
     let registers = loading.registers;
-    let x = machine::prepare(registers, &mut store[..words]);
-    x.number
+    host::start::record_answer(registers, &store[..words])
 }
 
 // Of the buffer's first `size` bytes those before `kept` are records that were loaded, and ST may need five bytes after them all.
