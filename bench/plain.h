@@ -25,6 +25,10 @@ kuzhlemor_check plain_may_call(const kuzhlemor_registers *registers, const uint6
 uint32_t plain_set_brackets(uint64_t *memory, size_t words, uint32_t dbr_address, uint16_t dbr_length,
                             const kuzhlemor_row *rows, size_t row_count);
 
+/* As kuzhlemor_from_old and kuzhlemor_to_old. */
+kuzhlemor_old_answer plain_from_old(uint64_t *words, size_t count);
+kuzhlemor_old_answer plain_to_old(uint64_t *words, size_t count);
+
 /* As kuzhlemor_convert. */
 int64_t plain_convert(uint8_t *image, size_t length);
 

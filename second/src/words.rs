@@ -1,11 +1,11 @@
 //! Words: the descriptor, the pointer word, the instruction and its opcodes.
 
 /// Bits `first` to `last` of a word; bit 0 is the lowest.
-const fn bits(word: u64, first: u32, last: u32) -> u64 {
+pub(crate) const fn bits(word: u64, first: u32, last: u32) -> u64 {
     (word >> first) & (u64::MAX >> (63 - (last - first)))
 }
 
-const fn bit(word: u64, number: u32) -> bool {
+pub(crate) const fn bit(word: u64, number: u32) -> bool {
     bits(word, number, number) == 1
 }
 

@@ -569,11 +569,6 @@ static size_t random_words;
 static kuzhlemor_dbr random_dbr;
 static table random_table;
 
-static bool one_in(uint32_t n)
-{
-    return random_below(n) == 0;
-}
-
 /* Random numbers are never drawn in an order that C leaves open. */
 static kuzhlemor_row random_row(unsigned first, unsigned last)
 {
@@ -625,11 +620,8 @@ static void make_memory(unsigned segments)
     random_dbr = (kuzhlemor_dbr){.length = (uint16_t)segments};
     random_dbr.address = one_in(4) ? 0 : random_below(24);
     random_words = random_dbr.address + segments + (one_in(3) ? 0 : random_below(24));
-    for (size_t k = 0; k < random_words; k++) {
-        uint64_t high = random_below(UINT32_MAX);
-
-        random_memory[k] = high << 32 | random_below(UINT32_MAX);
-    }
+    for (size_t k = 0; k < random_words; k++)
+        random_memory[k] = random_word();
 }
 
 /* R1 above R2, or R2 above R3. */

@@ -142,7 +142,7 @@ kuzhlemor_reply step_plain(machine *m)
 }
 
 /* Pseudo-random numbers by the splitmix64 recurrence, from a fixed seed. */
-static uint64_t random_word(void)
+uint64_t random_word(void)
 {
     static uint64_t state = 1971;
     uint64_t z;
@@ -159,7 +159,7 @@ uint32_t random_below(uint32_t bound)
     return (uint32_t)((random_word() >> 32) * bound >> 32);
 }
 
-static bool one_in(uint32_t n)
+bool one_in(uint32_t n)
 {
     return random_below(n) == 0;
 }

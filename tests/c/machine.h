@@ -56,7 +56,9 @@ machine case_12(void);
 
 /* A pseudo-random small machine; the sequence of machines is always the same. */
 machine random_machine(void);
+uint64_t random_word(void);
 uint32_t random_below(uint32_t bound);
+bool one_in(uint32_t n);
 
 /* What has been seen of replies, which opcodes have completed, which faults were delivered, which no of the save segment kept
  * one from it (15: too few words, 23: W off), and how many pointer words steps have read. */

@@ -1,7 +1,8 @@
 /* A fuzzer's input compared: the plain C processor, built for coverage, and the library must give the same answer, registers
  * and memory, byte for byte. An input's first byte says whether the rest is an image, which is run, and converted and then run,
  * or a register record and a memory, which are run, and asked whether a call may go to some pointers. Of either sort, the rest is
- * also taken for such a memory, and its end for a table that sets brackets in it. */
+ * also taken for such a memory, and its end for a table that sets brackets in it; and for words of descriptors, old ones and
+ * today's, which are converted either way. */
 #include "images.h"
 #include "kuzhlemor.h"
 #include "padding.h"
@@ -81,15 +82,15 @@ static void compare_checks(const kuzhlemor_registers *r, const kuzhlemor_registe
     }
 }
 
-/* The words of memory behind the record; answers how many. */
+/* The words that the bytes hold; answers how many. */
 static size_t words_at(const uint8_t *bytes, size_t length, uint64_t memory[WORDS])
 {
-    size_t words = (length - RECORD) / 8;
+    size_t words = length / 8;
 
     if (words > WORDS)
         words = WORDS;
     for (size_t k = 0; k < words; k++)
-        memory[k] = number_at(bytes + RECORD + 8 * k, 8);
+        memory[k] = number_at(bytes + 8 * k, 8);
     return words;
 }
 
@@ -184,7 +185,7 @@ static void compare_tables(const uint8_t *bytes, size_t length)
 
     if (length < RECORD)
         return;
-    words = words_at(bytes, length, x);
+    words = words_at(bytes + RECORD, length - RECORD, x);
     memcpy(y, x, sizeof y);
     recorded = registers_at(bytes).dbr;
     dbr = dbr_near(recorded, bytes[length - 1]);
@@ -195,6 +196,38 @@ static void compare_tables(const uint8_t *bytes, size_t length)
             "a table's answer");
     require(memcmp(x, y, sizeof x) == 0, "a word after a table");
     require(memcmp(rows, lent, sizeof rows) == 0, "a row");
+}
+
+/* Converts them one way; `words` become what is left. */
+static void compare_either_way(uint64_t words[WORDS], size_t count, int back)
+{
+    static uint64_t lent[WORDS];
+    kuzhlemor_old_answer plain;
+    kuzhlemor_old_answer library;
+
+    memcpy(lent, words, sizeof lent);
+    plain = back ? plain_to_old(words, count) : plain_from_old(words, count);
+    library = back ? kuzhlemor_to_old(lent, count) : kuzhlemor_from_old(lent, count);
+    require(plain.number == library.number && plain.index == library.index, "a conversion's answer");
+    require(memcmp(words, lent, sizeof lent) == 0, "a word after a conversion");
+}
+
+/* The words as they are, either way; without the bits that 56 is about, but for one word; and what they are now, with a word
+ * changed, back. */
+static void compare_descriptors(const uint8_t *bytes, size_t length, uint8_t how)
+{
+    static uint64_t words[WORDS];
+    size_t count = words_at(bytes, length, words);
+
+    compare_either_way(words, count, 1);
+    compare_either_way(words, count, 0);
+    for (size_t k = 0; k < count; k++)
+        if (k != how)
+            words[k] &= 0x00000fffffffffff;
+    compare_either_way(words, count, 0);
+    if (count > 0)
+        words[how % count] ^= number_at(bytes + length - 8, 8);
+    compare_either_way(words, count, 1);
 }
 
 /* The record of an ST, then the words of memory; checks, a run, and a step after it. The library's record has the input's last bytes
@@ -211,7 +244,7 @@ static void compare_machines(const uint8_t *bytes, size_t length, uint8_t how)
     if (length < RECORD)
         return;
     r = registers_at(bytes);
-    words = words_at(bytes, length, x);
+    words = words_at(bytes + RECORD, length - RECORD, x);
     memcpy(y, x, sizeof y);
     s = r;
     put_padding(&s, bytes + length - PADDING);
@@ -236,5 +269,6 @@ int LLVMFuzzerTestOneInput(const uint8_t *data, size_t size)
         compare_machines(data + 2, size - 2, data[1]);
     }
     compare_tables(data + 2, size - 2);
+    compare_descriptors(data + 2, size - 2, data[1]);
     return 0;
 }

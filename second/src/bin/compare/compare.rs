@@ -1,13 +1,14 @@
-//! One machine, one image or one table of brackets through both implementations.
+//! One machine, one image, one table of brackets or one segment of descriptors through both implementations.
 
 use crate::checks;
 use crate::images::shuffle;
 use crate::library::{Answer, CheckAnswer, Lent};
 use crate::random::Random;
 use crate::reach::{Place, Reach, Unsaved};
+use second::old_cases::Segment;
 use second::opcodes::CALL;
 use second::tables::Table;
-use second::{Check, Descriptor, Fault, Instruction, Pointer, Registers, Reply, Row};
+use second::{Check, Descriptor, Direction, Fault, Instruction, OldAnswer, Pointer, Registers, Reply, Row};
 
 /// What a call is handed.
 #[derive(Clone, Debug, Default, PartialEq, Eq)]
@@ -35,6 +36,7 @@ pub struct Comparer {
     pub images: u64,
     pub checks: u64,
     pub tables: u64,
+    pub segments: u64,
     mine: Vec<u64>,
     after_run: Vec<u64>,
     reordered: Vec<Row>,
@@ -68,6 +70,7 @@ impl Comparer {
             images: 0,
             checks: 0,
             tables: 0,
+            segments: 0,
             mine: Vec::new(),
             after_run: Vec::new(),
             reordered: Vec::new(),
@@ -229,7 +232,7 @@ impl Comparer {
         result
     }
 
-    /// What a table has left in memory.
+    /// What a table has left in memory, or a conversion of descriptors.
     pub fn memory(&self) -> &[u64] {
         &self.mine
     }
@@ -249,6 +252,42 @@ impl Comparer {
             text += "\n  the rows were written, or those around them";
         }
         Err(Difference(text))
+    }
+
+    /// A segment of descriptors, converted where it stands. An accepted one comes back the same. Answers what both do.
+    pub fn segment(&mut self, segment: &Segment) -> Result<OldAnswer, Difference> {
+        let Segment { direction, words } = segment;
+        self.segments += 1;
+        self.mine.clone_from(words);
+        self.lent.set_memory(words);
+        let answer = self.convert_old(*direction)?;
+        self.reach.segment(segment, answer);
+        if answer.number != 0 {
+            return Ok(answer);
+        }
+        self.after_run.clone_from(&self.mine);
+        let back = self
+            .convert_old(direction.back())
+            .map_err(|Difference(text)| Difference(format!("{text}\n  on the way back")))?;
+        if back != answer || self.mine != *words {
+            return Err(Difference(format!("second's own way back answers {back:?}, or the words differ")));
+        }
+        std::mem::swap(&mut self.mine, &mut self.after_run);
+        Ok(answer)
+    }
+
+    /// The conversion of what both have: the answer and every word; the words around them stay.
+    fn convert_old(&mut self, direction: Direction) -> Result<OldAnswer, Difference> {
+        let mine = direction.convert(&mut self.mine);
+        let answer = self.lent.convert_old(direction);
+        if answer == mine && self.lent.memory() == self.mine && self.lent.guards_stand() {
+            return Ok(mine);
+        }
+        let text = format!(
+            "{direction:?} with {} words:\n  answer: second {mine:?}\n          library {answer:?}",
+            self.mine.len()
+        );
+        Err(Difference(text + &self.memory_differs()))
     }
 
     /// If the CALL at IPR forms its TPR: TPR, and what both answer of it.
@@ -279,13 +318,12 @@ impl Comparer {
         Err(Difference(text))
     }
 
-    /// The words that differ, in words.
+    /// The words that differ, at most 100 of them, in words.
     fn memory_differs(&self) -> String {
         let mut text = String::new();
-        for (address, (mine, theirs)) in self.mine.iter().zip(self.lent.memory()).enumerate() {
-            if mine != theirs {
-                text += &format!("\n  memory word {address}: second {mine:#018x}, library {theirs:#018x}");
-            }
+        let words = self.mine.iter().zip(self.lent.memory()).enumerate();
+        for (address, (mine, theirs)) in words.filter(|(_, (mine, theirs))| mine != theirs).take(100) {
+            text += &format!("\n  memory word {address}: second {mine:#018x}, library {theirs:#018x}");
         }
         if !self.lent.guards_stand() {
             text += "\n  words outside of the memory lent were written";

@@ -61,17 +61,24 @@ pub fn describe(machine: &Machine) -> String {
     text
 }
 
+/// Changes a failing input if it then still fails.
+pub fn attempt<T: Clone + PartialEq>(
+    input: &mut T,
+    fails: &mut dyn FnMut(&T) -> bool,
+    change: &dyn Fn(&mut T),
+) -> bool {
+    let mut changed = input.clone();
+    change(&mut changed);
+    let is_smaller = changed != *input && fails(&changed);
+    if is_smaller {
+        *input = changed;
+    }
+    is_smaller
+}
+
 /// Makes a failing machine smaller while it still fails.
 pub fn shrink(mut machine: Machine, fails: &mut dyn FnMut(&Machine) -> bool) -> Machine {
-    let mut attempt = |machine: &mut Machine, change: &dyn Fn(&mut Machine)| {
-        let mut changed = machine.clone();
-        change(&mut changed);
-        let is_smaller = changed != *machine && fails(&changed);
-        if is_smaller {
-            *machine = changed;
-        }
-        is_smaller
-    };
+    let mut attempt = |machine: &mut Machine, change: &dyn Fn(&mut Machine)| attempt(machine, fails, change);
     // The shortest budget; then from the state just before, one step.
     let mut less = machine.budget / 2;
     while less > 0 {

@@ -1,7 +1,7 @@
 //! The C library, called as its header says.
 
 use crate::random::Random;
-use second::{Check, Dbr, Fault, Pointer, Registers, Reply, Row};
+use second::{Check, Dbr, Direction, Fault, OldAnswer, Pointer, Registers, Reply, Row};
 
 #[repr(C)]
 #[derive(Clone, Copy, Default, PartialEq, Eq)]
@@ -76,6 +76,13 @@ impl From<Row> for CRow {
     }
 }
 
+#[repr(C)]
+#[derive(Clone, Copy)]
+struct COldAnswer {
+    number: u64,
+    index: u64,
+}
+
 const _: () = assert!(std::mem::size_of::<CRegisters>() == 80);
 const _: () = assert!(std::mem::align_of::<CRegisters>() == 8);
 const _: () = assert!(std::mem::offset_of!(CRegisters, prs) == 22);
@@ -92,6 +99,8 @@ const _: () = assert!(std::mem::size_of::<CRow>() == 10);
 const _: () = assert!(std::mem::align_of::<CRow>() == 2);
 const _: () = assert!(std::mem::offset_of!(CRow, r1) == 4);
 const _: () = assert!(std::mem::offset_of!(CRow, execute) == 9);
+const _: () = assert!(std::mem::size_of::<COldAnswer>() == 16);
+const _: () = assert!(std::mem::offset_of!(COldAnswer, index) == 8);
 
 extern "C" {
     fn kuzhlemor_step(registers: *mut CRegisters, memory: *mut u64, words: usize) -> CReply;
@@ -114,6 +123,8 @@ extern "C" {
         rows: *const CRow,
         row_count: usize,
     ) -> u32;
+    fn kuzhlemor_from_old(words: *mut u64, count: usize) -> COldAnswer;
+    fn kuzhlemor_to_old(words: *mut u64, count: usize) -> COldAnswer;
 }
 
 /// A reply as the library gives it; it may be one that no `Reply` is.
@@ -309,6 +320,18 @@ impl Lent {
             kuzhlemor_set_brackets(memory, words, dbr.address, dbr.length, lent_rows, rows.len())
         };
         (answer, lent().eq(self.rows.iter().copied()))
+    }
+
+    /// The conversion of all words lent, as descriptors.
+    pub fn convert_old(&mut self, direction: Direction) -> OldAnswer {
+        let count = self.words.len() - 2 * GUARD;
+        let convert = match direction {
+            Direction::FromOld => kuzhlemor_from_old,
+            Direction::ToOld => kuzhlemor_to_old,
+        };
+        // SAFETY: `count` words, aligned, lent alone for the call.
+        let COldAnswer { number, index } = unsafe { convert(self.words.as_mut_ptr().add(GUARD), count) };
+        OldAnswer { number, index }
     }
 }
 

@@ -1,5 +1,5 @@
 //! Compares the second implementation with libkuzhlemor.a: `compare quick`, or `compare long N [SEED]`, which draws
-//! N machines, N images and N tables of brackets beside the directed ones.
+//! N machines, N images, N tables of brackets and N segments of descriptors beside the directed ones.
 
 mod checks;
 mod compare;
@@ -9,6 +9,7 @@ mod generator;
 mod images;
 mod kept;
 mod library;
+mod old;
 mod program;
 mod random;
 mod reach;
@@ -26,6 +27,7 @@ use directed::Pairs;
 use generator::{budget, Generator};
 use kept::Input;
 use random::Random;
+use second::old_cases::Segment;
 use second::tables::{rows_bytes, Table};
 use second::Registers;
 use secrecy::{Leak, Secrecy};
@@ -42,6 +44,7 @@ struct Plan {
     few: u64,
     large: u64,
     tables: u64,
+    segments: u64,
     depth: usize,
 }
 
@@ -61,6 +64,7 @@ fn main() -> ExitCode {
             few: 100_000,
             large: 400,
             tables: 1_000_000,
+            segments: 2_000_000,
             depth: 4,
         },
         (Some("long"), 2 | 3) => match (number(1), number(2)) {
@@ -74,6 +78,7 @@ fn main() -> ExitCode {
                 few: many / 5,
                 large: 2_000,
                 tables: many,
+                segments: many,
                 depth: 5,
             },
             _ => {
@@ -137,6 +142,11 @@ fn carry_out(plan: &Plan) -> Result<(), String> {
         "directed: {count} tables of brackets, {rings} over all rings, with the answers and memories that 02 gives"
     ));
 
+    let (count, rings) = old::directed(&mut comparer).map_err(|failure| segment_differs(plan, *failure))?;
+    clock.part(&format!(
+        "directed: {count} segments of descriptors to convert, {rings} over all rings, with the answers and words that 02 gives"
+    ));
+
     let count = repeats::directed(&mut comparer).map_err(|(name, (image, length, difference))| {
         image_differs(plan, &mut Comparer::new(), &name, image, length, difference)
     })?;
@@ -170,6 +180,8 @@ fn carry_out(plan: &Plan) -> Result<(), String> {
 
     drawn_tables(plan, &mut comparer, &mut clock)?;
 
+    drawn_segments(plan, &mut comparer, &mut clock)?;
+
     programs(plan, &mut generator, &mut clock)?;
 
     let mut random = Random::new(plan.seed.rotate_left(16));
@@ -198,9 +210,11 @@ fn carry_out(plan: &Plan) -> Result<(), String> {
     if !missed.is_empty() {
         return Err(format!("compare: none different, but never reached: {}", missed.join(", ")));
     }
-    let Comparer { images, checks, tables, .. } = comparer;
+    let Comparer { images, checks, tables, segments, .. } = comparer;
     let machines = comparer.machines + 2 * secrecy.pairs;
-    println!("compare: {machines} machines, {images} images, {checks} checks, {tables} tables, none different");
+    println!(
+        "compare: {machines} machines, {images} images, {checks} checks, {tables} tables, {segments} segments, none different"
+    );
     Ok(())
 }
 
@@ -300,12 +314,27 @@ fn drawn_tables(plan: &Plan, comparer: &mut Comparer, clock: &mut Clock) -> Resu
     Ok(())
 }
 
+fn drawn_segments(plan: &Plan, comparer: &mut Comparer, clock: &mut Clock) -> Result<(), String> {
+    let mut random = Random::new(plan.seed.rotate_left(56));
+    let mut segment = Segment::default();
+    for count in 0..plan.segments {
+        let mut random = Random::new(random.next());
+        old::draw(&mut random, &mut segment);
+        if let Err(difference) = comparer.segment(&segment) {
+            return Err(segment_differs(plan, (format!("segment {count}"), segment, difference)));
+        }
+    }
+    clock.part(&format!("random: {} segments of descriptors, converted", plan.segments));
+    Ok(())
+}
+
 /// The laptop's programs that the environment names.
 fn programs(plan: &Plan, generator: &mut Generator, clock: &mut Clock) -> Result<(), String> {
     type Compare = fn(&OsStr, &mut Random, &mut Generator) -> Result<usize, program::Failure>;
-    let programs: [(&str, &str, u32, Compare); 2] = [
+    let programs: [(&str, &str, u32, Compare); 3] = [
         ("may_call", "KUZHLEMOR_MAY_CALL", 48, program::may_call),
         ("brackets", "KUZHLEMOR_BRACKETS", 40, program::brackets),
+        ("old_words", "KUZHLEMOR_OLD_WORDS", 12, program::old_words),
     ];
     for (name, variable, rotation, compare) in programs {
         let Some(path) = std::env::var_os(variable) else { continue };
@@ -358,6 +387,15 @@ fn table_differs(plan: &Plan, (name, table, first): tables::Failure) -> String {
     let machine = Machine { registers: Registers { dbr, ..Registers::default() }, memory, budget: 0 };
     let input = [rows_bytes(&rows), describe::image(&machine)].concat();
     write_out(&format!("failing-{}", plan.seed), &[("-table", input)], text)
+}
+
+/// It is written as the program's input.
+fn segment_differs(plan: &Plan, (name, segment, first): old::Failure) -> String {
+    let mut comparer = Comparer::new();
+    let smaller = old::shrink(segment, &mut |segment| comparer.segment(segment).is_err());
+    let difference = comparer.segment(&smaller).err().unwrap_or(first);
+    let text = format!("compare: DIFFERENT, in {name}\n{}\n{}", difference.0, old::describe(&smaller));
+    write_out(&format!("failing-{}", plan.seed), &[("-segment", smaller.bytes())], text)
 }
 
 fn leaks(plan: &Plan, (difference, n, one, two): Leak) -> String {

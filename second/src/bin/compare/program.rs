@@ -1,26 +1,31 @@
-//! The laptop's programs that ask whether a call would pass and that set brackets, against what the second implementation
-//! writes.
+//! The laptop's programs that ask whether a call would pass, that set brackets and that convert descriptors, against what
+//! the second implementation writes.
 
 use std::ffi::OsStr;
 use std::io::{self, Write};
-use std::process::{Command, Stdio};
+use std::process::{Command, Output, Stdio};
 
 use crate::checks;
 use crate::compare::{Difference, Machine};
 use crate::describe;
 use crate::generator::Generator;
 use crate::images;
+use crate::old;
 use crate::random::Random;
 use crate::tables;
 use second::calls;
 use second::image::pointer_bytes;
+use second::old::MOST_WORDS;
+use second::old_cases::{self, segment_bytes, Segment};
 use second::tables::{cases, inputs, rows_bytes, Input};
+use second::Direction;
 
 /// The name of an input, its bytes, and what differs.
 pub type Failure = (String, Vec<u8>, Difference);
 
-/// How many are drawn beside the directed ones.
+/// How many are drawn beside the directed ones; and how many of descriptors.
 const DRAWN: usize = 2_000;
+const DRAWN_WORDS: usize = 1_000;
 
 /// A program, and how many inputs it has had.
 struct Asked<'p> {
@@ -33,12 +38,19 @@ impl<'p> Asked<'p> {
         Asked { program, inputs: 0 }
     }
 
-    /// Does the program write this?
-    fn ask(&mut self, name: String, input: Vec<u8>, expected: &[u8]) -> Result<(), Failure> {
+    /// Does the program write this and no error? Or, where there is nothing to write, some error and nothing else?
+    fn ask(&mut self, name: String, input: Vec<u8>, expected: Option<&[u8]>) -> Result<(), Failure> {
         self.inputs += 1;
+        let mine = expected.unwrap_or_default();
         let difference = match output(self.program, &input) {
-            Ok(written) if written == expected => return Ok(()),
-            Ok(written) => differs(expected, &written),
+            Ok(Output { stdout, stderr, .. }) if stdout == mine && stderr.is_empty() == expected.is_some() => {
+                return Ok(())
+            }
+            Ok(Output { stdout, stderr, .. }) if stdout == mine => {
+                let text = if expected.is_some() { "no error" } else { "an error" };
+                format!("second has {text}, the program \"{}\"", stderr.escape_ascii())
+            }
+            Ok(Output { stdout, .. }) => differs(mine, &stdout),
             Err(error) => format!("{}: {error}", self.program.to_string_lossy()),
         };
         Err((name, input, Difference(difference)))
@@ -63,18 +75,18 @@ fn differs(mine: &[u8], theirs: &[u8]) -> String {
 pub fn may_call(program: &OsStr, random: &mut Random, generator: &mut Generator) -> Result<usize, Failure> {
     let mut asked = Asked::new(program);
     for calls::Input { name, bytes, text } in calls::inputs() {
-        asked.ask(name, bytes, text.as_bytes())?;
+        asked.ask(name, bytes, Some(text.as_bytes()))?;
     }
     for case in calls::cases() {
         if let Some(input) = case.input() {
             let text = case.text();
-            asked.ask(case.name, input, text.as_bytes())?;
+            asked.ask(case.name, input, Some(text.as_bytes()))?;
         }
     }
     for number in 0..DRAWN {
         let input = drawn_pointer(random, generator);
         let text = second::may_call_text(&input);
-        asked.ask(format!("drawn input {number}"), input, text.as_bytes())?;
+        asked.ask(format!("drawn input {number}"), input, Some(text.as_bytes()))?;
     }
     Ok(asked.inputs)
 }
@@ -83,7 +95,7 @@ pub fn may_call(program: &OsStr, random: &mut Random, generator: &mut Generator)
 pub fn brackets(program: &OsStr, random: &mut Random, generator: &mut Generator) -> Result<usize, Failure> {
     let mut asked = Asked::new(program);
     for Input { name, bytes, output } in inputs().into_iter().chain(cases().iter().filter_map(|case| case.input())) {
-        asked.ask(name, bytes, &output)?;
+        asked.ask(name, bytes, Some(&output))?;
     }
     for number in 0..DRAWN {
         let input = drawn_table(random, generator);
@@ -95,7 +107,22 @@ pub fn brackets(program: &OsStr, random: &mut Random, generator: &mut Generator)
                 return Err((name, input, difference));
             }
         }
-        asked.ask(name, input, &written)?;
+        asked.ask(name, input, Some(&written))?;
+    }
+    Ok(asked.inputs)
+}
+
+/// The same of descriptors, some of which the program can't take.
+pub fn old_words(program: &OsStr, random: &mut Random, _: &mut Generator) -> Result<usize, Failure> {
+    let mut asked = Asked::new(program);
+    let of_cases = old_cases::cases().into_iter().map(|case| case.input());
+    for old_cases::Input { name, bytes, output } in old_cases::inputs().into_iter().chain(of_cases) {
+        asked.ask(name, bytes, output.ok().as_deref())?;
+    }
+    for number in 0..DRAWN_WORDS {
+        let input = drawn_words(random);
+        let written = second::old_words_output(&input);
+        asked.ask(format!("drawn input {number}"), input, written.ok().as_deref())?;
     }
     Ok(asked.inputs)
 }
@@ -150,9 +177,37 @@ fn drawn_table(random: &mut Random, generator: &mut Generator) -> Vec<u8> {
     input
 }
 
+/// A direction and words. Few are as many as there may be, or more, or end in a word.
+fn drawn_words(random: &mut Random) -> Vec<u8> {
+    let mut segment = Segment::default();
+    old::draw(random, &mut segment);
+    let Segment { direction, mut words } = segment;
+    if random.chance(50) && !words.is_empty() {
+        let length = match random.below(4) {
+            0 | 1 => MOST_WORDS,
+            2 => MOST_WORDS + 1,
+            _ => random.between(4_000, 5_000),
+        };
+        words = words.into_iter().cycle().take(length).collect();
+    }
+    let direction = match direction {
+        Direction::FromOld => 0,
+        Direction::ToOld if random.chance(800) => random.pick(&[1, 2, 255]),
+        Direction::ToOld => random.between(1, 255) as u8,
+    };
+    let mut input = segment_bytes(direction, &words);
+    match random.below(20) {
+        0 => input.truncate(random.below(input.len())),
+        1 => input.extend((0..random.between(1, 7)).map(|_| random.next() as u8)),
+        _ => {}
+    }
+    input
+}
+
 /// What the program writes for this input.
-fn output(program: &OsStr, input: &[u8]) -> io::Result<Vec<u8>> {
-    let mut child = Command::new(program).stdin(Stdio::piped()).stdout(Stdio::piped()).spawn()?;
+fn output(program: &OsStr, input: &[u8]) -> io::Result<Output> {
+    let mut command = Command::new(program);
+    let mut child = command.stdin(Stdio::piped()).stdout(Stdio::piped()).stderr(Stdio::piped()).spawn()?;
     if let Some(mut stdin) = child.stdin.take() {
         match stdin.write_all(input) {
             // It may have seen enough.
@@ -162,7 +217,7 @@ fn output(program: &OsStr, input: &[u8]) -> io::Result<Vec<u8>> {
     }
     let output = child.wait_with_output()?;
     match output.status.code() {
-        Some(_) => Ok(output.stdout),
+        Some(_) => Ok(output),
         None => Err(io::Error::other(output.status.to_string())),
     }
 }

@@ -4,9 +4,10 @@ use std::collections::BTreeMap;
 
 use crate::compare::Machine;
 use second::image::{self, Record};
+use second::old_cases::Segment;
 use second::opcodes::RCU;
 use second::tables::Table;
-use second::{Check, Fault, Opcode, Pointer, Registers, Reply, Row, Rules};
+use second::{Check, Descriptor, Direction, Fault, OldAnswer, Opcode, Pointer, Registers, Reply, Row, Rules};
 
 /// The questions of a machine, and those of an image: a memory of at most 8,192 words has no 1.
 pub const QUESTIONS: [u8; 24] =
@@ -457,6 +458,154 @@ fn at_fault(table: &Table) -> AtFault {
     at_fault
 }
 
+/// What segments of descriptors were answered, one way.
+struct Segments {
+    direction: Direction,
+    /// Accepted, in the order of `LENGTHS`.
+    accepted: [u64; LENGTHS.len()],
+    /// Words of accepted segments, by R, W, E and user as the old ones have them.
+    flags: [u64; 16],
+    /// The first word that fails, by what is wrong with it: the cells of `FailsBy`.
+    causes: [u64; FailsBy::CELLS],
+    /// The same, by its place: the order of `PLACES`.
+    places: [u64; PLACES.len()],
+}
+
+const LENGTHS: [&str; 5] = ["0 words", "1 word", "2 to 4095 words", "4096 words", "more words"];
+const PLACES: [&str; 6] =
+    ["the only word", "the first", "the first of several", "one between", "the first of several, between", "the last"];
+
+/// What is wrong with a word, and nothing else.
+#[derive(Clone, Copy, Debug, PartialEq, Eq)]
+enum FailsBy {
+    /// 56, or GATE: this bit.
+    Bit(u32),
+    /// 56, or GATE.
+    Bits,
+    VOff,
+    /// Rings: this one, the other two being 0 or 4; three equal ones; others.
+    OneRing(usize),
+    EqualRings,
+    Rings,
+    /// Several of V, GATE and rings.
+    Several,
+}
+
+impl FailsBy {
+    const CELLS: usize = 28;
+
+    fn of(direction: Direction, word: u64) -> Option<FailsBy> {
+        let bits = |bits: u64| if bits.is_power_of_two() { FailsBy::Bit(bits.trailing_zeros()) } else { FailsBy::Bits };
+        match direction {
+            Direction::FromOld => {
+                let above = word & 0xffff_f000_0000_0000;
+                (above != 0).then(|| bits(above))
+            }
+            Direction::ToOld => {
+                let today = Descriptor::from_word(word);
+                let v = (!today.v).then_some(FailsBy::VOff);
+                let gate = (today.gate != 0).then(|| bits(word & 0xffe0_0000_0000_0000));
+                let rings = match [today.r1, today.r2, today.r3] {
+                    [0, 0, 0] | [4, 4, 4] => None,
+                    [_, 0, 0] | [_, 4, 4] => Some(FailsBy::OneRing(0)),
+                    [0, _, 0] | [4, _, 4] => Some(FailsBy::OneRing(1)),
+                    [0, 0, _] | [4, 4, _] => Some(FailsBy::OneRing(2)),
+                    [r1, r2, r3] if r1 == r2 && r2 == r3 => Some(FailsBy::EqualRings),
+                    _ => Some(FailsBy::Rings),
+                };
+                let mut all = [v, gate, rings].into_iter().flatten();
+                let first = all.next()?;
+                Some(if all.next().is_some() { FailsBy::Several } else { first })
+            }
+        }
+    }
+
+    /// Bits 44 to 63, and the others behind them.
+    fn cell(self) -> usize {
+        match self {
+            FailsBy::Bit(number) => number as usize - 44,
+            FailsBy::Bits => 20,
+            FailsBy::VOff => 21,
+            FailsBy::OneRing(number) => 22 + number,
+            FailsBy::EqualRings => 25,
+            FailsBy::Rings => 26,
+            FailsBy::Several => 27,
+        }
+    }
+
+    fn name(self) -> String {
+        match self {
+            FailsBy::Bit(number) => format!("bit {number}"),
+            FailsBy::Bits => "several bits".to_string(),
+            FailsBy::VOff => "V off".to_string(),
+            FailsBy::OneRing(number) => format!("R{} alone", number + 1),
+            FailsBy::EqualRings => "equal rings".to_string(),
+            FailsBy::Rings => "other rings".to_string(),
+            FailsBy::Several => "several of V, GATE and rings".to_string(),
+        }
+    }
+
+    fn all(direction: Direction) -> Vec<FailsBy> {
+        let bits = |first| (first..64).map(FailsBy::Bit).chain([FailsBy::Bits]);
+        let others = [FailsBy::VOff, FailsBy::EqualRings, FailsBy::Rings, FailsBy::Several];
+        match direction {
+            Direction::FromOld => bits(44).collect(),
+            Direction::ToOld => bits(53).chain((0..3).map(FailsBy::OneRing)).chain(others).collect(),
+        }
+    }
+}
+
+impl Segments {
+    fn new(direction: Direction) -> Segments {
+        Segments {
+            direction,
+            accepted: [0; LENGTHS.len()],
+            flags: [0; 16],
+            causes: [0; FailsBy::CELLS],
+            places: [0; PLACES.len()],
+        }
+    }
+
+    fn answered(&mut self, words: &[u64], answer: OldAnswer) {
+        if answer.number == 0 {
+            self.accepted[[1, 2, 4_096, 4_097].iter().filter(|least| **least <= words.len()).count()] += 1;
+            for word in words {
+                let flags = match self.direction {
+                    Direction::FromOld => word >> 40,
+                    // R, W and E; R1's upper bit, which only a user's has on.
+                    Direction::ToOld => (word >> 49 & 7) | (word >> 42 & 1) << 3,
+                };
+                self.flags[(flags & 15) as usize] += 1;
+            }
+            return;
+        }
+        let index = answer.index as usize;
+        if let Some(fails_by) = FailsBy::of(self.direction, words[index]) {
+            self.causes[fails_by.cell()] += 1;
+        }
+        let is_one_of_several = words[index + 1..].iter().any(|word| FailsBy::of(self.direction, *word).is_some());
+        let place = match (index, words.len() - index) {
+            (0, 1) => 0,
+            (_, 1) => 5,
+            (0, _) => 1 + usize::from(is_one_of_several),
+            _ => 3 + usize::from(is_one_of_several),
+        };
+        self.places[place] += 1;
+    }
+
+    fn print(&self, missed: &mut Vec<String>) {
+        let (number, way) = match self.direction {
+            Direction::FromOld => (56, "from old"),
+            Direction::ToOld => (57, "to old"),
+        };
+        print_row(LENGTHS.map(|length| format!("{length} {way}")).into_iter().zip(self.accepted), missed);
+        print_row((0..16).map(|flags| format!("user E W R {flags:04b} {way}")).zip(self.flags), missed);
+        let causes = FailsBy::all(self.direction).into_iter();
+        print_row(causes.map(|by| (format!("{number}, {}", by.name()), self.causes[by.cell()])), missed);
+        print_row(PLACES.map(|place| format!("{number}, {place}")).into_iter().zip(self.places), missed);
+    }
+}
+
 /// The questions of a stored image.
 const STORED_QUESTIONS: [u8; 7] = [41, 42, 43, 44, 2, 3, 4];
 
@@ -546,6 +695,7 @@ pub struct Reach {
     checks: Checks,
     stack_bases: StackBases,
     tables: Tables,
+    segments: [Segments; 2],
     changed_memory: u64,
     changed_descriptors: u64,
     changed_dbr: u64,
@@ -569,6 +719,7 @@ impl Reach {
             checks: Checks::new(),
             stack_bases: StackBases::default(),
             tables: Tables::default(),
+            segments: Direction::BOTH.map(Segments::new),
             changed_memory: 0,
             changed_descriptors: 0,
             changed_dbr: 0,
@@ -665,6 +816,13 @@ impl Reach {
         self.tables.answered(table, answer);
     }
 
+    /// What a segment of descriptors was answered.
+    pub fn segment(&mut self, Segment { direction, words }: &Segment, answer: OldAnswer) {
+        for segments in self.segments.iter_mut().filter(|segments| segments.direction == *direction) {
+            segments.answered(words, answer);
+        }
+    }
+
     /// Prints the tables; answers what was never reached.
     pub fn print(&self) -> Vec<String> {
         let mut missed = Vec::new();
@@ -692,6 +850,10 @@ impl Reach {
         self.stack_bases.print(&mut missed);
         println!("tables of brackets, by what decides:");
         self.tables.print(&mut missed);
+        println!("segments of descriptors, by what decides:");
+        for segments in &self.segments {
+            segments.print(&mut missed);
+        }
         missed
     }
 }

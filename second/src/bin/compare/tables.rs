@@ -1,6 +1,7 @@
 //! Tables of brackets: directed, drawn, made smaller, and in words.
 
 use crate::compare::{Comparer, Difference};
+use crate::describe::attempt;
 use crate::images::shuffle;
 use crate::random::Random;
 use second::brackets::MOST_ROWS;
@@ -225,15 +226,7 @@ fn without_plan(random: &mut Random, table: &mut Table) {
 
 /// Makes a failing table smaller while it still fails: fewer rows, words and segments, then more zeros.
 pub fn shrink(mut table: Table, fails: &mut dyn FnMut(&Table) -> bool) -> Table {
-    let mut attempt = |table: &mut Table, change: &dyn Fn(&mut Table)| {
-        let mut changed = table.clone();
-        change(&mut changed);
-        let is_smaller = changed != *table && fails(&changed);
-        if is_smaller {
-            *table = changed;
-        }
-        is_smaller
-    };
+    let mut attempt = |table: &mut Table, change: &dyn Fn(&mut Table)| attempt(table, fails, change);
     loop {
         let mut is_smaller = false;
         let mut less = table.rows.len() / 2 + 1;
