@@ -135,5 +135,9 @@ readings-hold =
       no-rows-for-no-segments = refl;
       table-sets-six-fields = refl;
       refused-table-writes-nothing = refl;
+      gate-is-a-door = refl;
+      gates-past-the-end-are-no-door = refl;
+      gate-without-an-extension-is-no-door = refl;
+      refused-image-has-no-doors = refl;
       offset-goes-round = refl;
     }

@@ -25,6 +25,7 @@ pub mod Convert
 pub mod Converted
 pub mod Brackets
 pub mod Bracketing
+pub mod Doors
 pub mod Lent
 pub mod Notation
 pub mod Cases

@@ -13,6 +13,7 @@ use Rattle.model.specs.Check.{check}
 use Rattle.model.specs.Listing.{ascii, check-line}
 use Rattle.model.specs.Notation.{pointer, flag, segment, by-ipr, by-pr, indirect-by-pr, indirect-word, WD-records, image-with, image-of}
 use Rattle.model.specs.Brackets.{Row, set-brackets}
+use Rattle.model.specs.Doors.{doors-listing, doors-text}
 use Rattle.model.specs.Write.{bytes, stored-ST, ST-record}
 use Rattle.model.specs.Cases.{step-faults, ipr-becomes, pr-becomes, a-becomes, word-becomes, step-counts, run-lists, delivery-lists, image-prints, image-converts, left-by, Holds, about-to-do, about-to, through-pointer, case-12-registers, case-12, pointers-up, through-pointers}
 
@@ -77,6 +78,10 @@ rows-of-one (suc n) a = row a a 0 0 0 "" ∷ rows-of-one n (suc a)
 
 abbrev table-answers : (length : ℕ) → List Row → (number : ℕ) → Type 0
 table-answers l rows n = set-brackets (replicate 40 0) (record { address = 1; length = l }) rows .answer ≡ n
+
+-- a machine's list of doors
+abbrev doors-are : Delivery → Machine → String → Type 0
+doors-are v m s = doors-listing v m ≡ ascii s
 
 pub record Readings : Type 0 where
   -- IMAGES are judged record by record: a bad record's number comes before anything that a later record would get
@@ -189,5 +194,10 @@ pub record Readings : Type 0 where
       set-brackets (7 ∷ 18446744073709551615 ∷ 0 ∷ 9 ∷ []) (record { address = 1; length = 2 }) (row 0 1 1 2 3 "R E" ∷ []) .memory
       ≡ 7 ∷ 18445286121291120639 ∷ 3044547697311744 ∷ 9 ∷ []
   pub refused-table-writes-nothing : set-brackets (0 ∷ 0 ∷ []) (record { address = 0; length = 2 }) (row 0 0 1 1 1 "R" ∷ []) .memory ≡ 0 ∷ 0 ∷ []
+  -- THE DOORS (02, L10): R3 above R2, E on and a gate that the segment has; then, with the switch on, where a fault leads
+  pub gate-is-a-door : doors-are no-delivery case-12 "door 5 0 2 5 1\ndoors 1\n"
+  pub gates-past-the-end-are-no-door : doors-are (delivering 1) (about-to CALL 4 4 1 (segment 3 4 1 2 5 "E V" 9)) "door 1 3 3 5 2\nfaults 1 3\ndoors 1\n"
+  pub gate-without-an-extension-is-no-door : doors-are no-delivery (about-to CALL 4 4 1 (segment 3 4 2 5 5 "E V" 2)) "doors 0\n"
+  pub refused-image-has-no-doors : doors-text [] ≡ ascii "refused 42\n"
   -- WORD NUMBERS go round from 65,535 to 0
   pub offset-goes-round : Holds (pr-becomes (about-to-do (by-pr EAP 1 + 3) 4 (pointer 4 1 65535) 0 []) 5 (pointer 4 1 2))
