@@ -1,6 +1,7 @@
 /* The ring processor as a C library: one step, or a run under a budget, over a register record and a memory that the
- * caller lends; brackets set for ranges of segments by a table (kuzhlemor_set_brackets); a whole image run for its listing;
- * and a stored image of the old rules made into one of today's. Link with libkuzhlemor.a (x86-64, System V calling
+ * caller lends; brackets set for ranges of segments by a table (kuzhlemor_set_brackets); descriptors of the oldest benches made
+ * into today's and back (kuzhlemor_from_old, kuzhlemor_to_old); a whole image run for its listing; and a stored image of the old
+ * rules made into one of today's. Link with libkuzhlemor.a (x86-64, System V calling
  * convention), which needs nothing but memset and memmove.
  *
  * The caller tests nothing first. Any values in the record and in memory, broken ones too, any number of words and any
@@ -151,6 +152,23 @@ typedef struct {
 uint32_t kuzhlemor_set_brackets(uint64_t *memory, size_t words, uint32_t dbr_address, uint16_t dbr_length,
                                 const kuzhlemor_row *rows, size_t row_count);
 
+/* What a conversion of descriptors answers: 0 and 0, or the number of the question that is answered no, and the index of the
+ * first word of which it is. */
+typedef struct {
+    uint64_t number;
+    uint64_t index;
+} kuzhlemor_old_answer;
+
+/* The descriptors of the oldest benches have no rings: bits 0-23 ADDRESS and 24-39 LENGTH, as now; 40 R, 41 W, 42 E, 43 user; the
+ * rest zero. kuzhlemor_from_old makes `count` such words into descriptors of today's, where they stand: user becomes rings 4 4 4,
+ * no user 0 0 0; V is on, GATE is 0; ADDRESS, LENGTH, R, W and E stay. kuzhlemor_to_old is the way back. Either converts all
+ * words or, where one of them fails, none; and what one has converted the other makes again what it was.
+ *   56  of an old word: bits 44 to 63 are off
+ *   57  of today's: V is on, GATE is 0, and the rings are 4 4 4 or 0 0 0
+ * Nothing else is asked of a word, and any count is taken. words isn't null, not even when the count is 0. */
+kuzhlemor_old_answer kuzhlemor_from_old(uint64_t *words, size_t count);
+kuzhlemor_old_answer kuzhlemor_to_old(uint64_t *words, size_t count);
+
 /* Loads an image, runs it and writes its listing into text: a line for each completed step (its number, IPR's ring, segment
  * and word after it, and how many pointer words it read) and a last line (`spent COUNT TOTAL`, `halted COUNT TOTAL` or
  * `fault NUMBER COUNT RING SEGMENT WORD TOTAL`, where TOTAL is the sum of the lines' pointer words), each ended by a
@@ -224,6 +242,9 @@ static_assert(offsetof(kuzhlemor_row, r3) == 6, "R3");
 static_assert(offsetof(kuzhlemor_row, read) == 7, "R");
 static_assert(offsetof(kuzhlemor_row, write) == 8, "W");
 static_assert(offsetof(kuzhlemor_row, execute) == 9, "E");
+static_assert(sizeof(kuzhlemor_old_answer) == 16, "size of a conversion's answer");
+static_assert(offsetof(kuzhlemor_old_answer, number) == 0, "number of a conversion's answer");
+static_assert(offsetof(kuzhlemor_old_answer, index) == 8, "index of a conversion's answer");
 #ifdef __cplusplus
 static_assert(alignof(kuzhlemor_registers) == 8, "alignment of the registers");
 static_assert(alignof(kuzhlemor_row) == 2, "alignment of a row");

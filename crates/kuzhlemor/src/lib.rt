@@ -1,13 +1,15 @@
 // The C library: a run and a step over a register record and a memory that the host lends, CALL's check over ones that are only read,
-// an image run whole, a stored one converted, and a table for who may do what.
+// an image run whole, a stored one converted, a table for who may do what, and descriptors of the old benches.
 ghost use mathlib.Core.Path.{_≡_};
 ghost use Rattle.model.specs.Answers.{check-numbers};
 ghost use Rattle.model.specs.Check.{check};
 ghost use Rattle.model.specs.Bench as Bench;
 ghost use Rattle.model.specs.Convert.{convert-call};
 ghost use Rattle.model.specs.Brackets.{set-brackets};
+ghost use Rattle.model.specs.Old.{from-old, to-old, convert-words};
 ghost use Rattle.host.specs.Record.{machine-of, delivery-of};
 ghost use Rattle.checks.specs.View.{as-numbers};
+ghost use Rattle.old.specs.View.{as-answer};
 ghost use Rattle.tables.specs.View.{as-rows, base};
 ghost use Rattle.kuzhlemor.specs.Entry.{Run-says, Step-says};
 use checks::Check;
@@ -74,4 +76,20 @@ pub extern "C" fn kuzhlemor_set_brackets(
     ensures { λ n. ⌜ (n ≡ set-brackets (now (memory .entry)) (base «dbr_address» «dbr_length») (as-rows (now (rows .entry))) .answer) × (now (memory .exit) ≡ set-brackets (now (memory .entry)) (base «dbr_address» «dbr_length») (as-rows (now (rows .entry))) .memory) ⌝ }
 {
     tables::set_brackets(memory, dbr_address, dbr_length, rows) as u32
+}
+
+// Descriptors of the old benches made into today's where they stand, all or nothing: number and index of the first that fails.
+#[no_mangle]
+pub extern "C" fn kuzhlemor_from_old(words: &mut [u64]) -> old::Answer
+    ensures { λ x. ⌜ (as-answer x ≡ convert-words from-old (now (words .entry)) .answer) × (now (words .exit) ≡ convert-words from-old (now (words .entry)) .words) ⌝ }
+{
+    old::convert_words(words, false)
+}
+
+// And back.
+#[no_mangle]
+pub extern "C" fn kuzhlemor_to_old(words: &mut [u64]) -> old::Answer
+    ensures { λ x. ⌜ (as-answer x ≡ convert-words to-old (now (words .entry)) .answer) × (now (words .exit) ≡ convert-words to-old (now (words .entry)) .words) ⌝ }
+{
+    old::convert_words(words, true)
 }

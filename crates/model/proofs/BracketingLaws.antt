@@ -106,7 +106,7 @@ module _ (x y z f g k : ℕ) (x-within : x ≤ 7) (y-within : y ≤ 7) (z-within
   execute-of-bits = omega arith
 
 module _ (l : ℕ) (r : Row) (w : ℕ) (h : Row-within l r) where
-  fields-of-row : Fields-of-row r (descriptor-in w) (descriptor-in (with-brackets r w))
+  pub fields-of-row : Fields-of-row r (descriptor-in w) (descriptor-in (with-brackets r w))
   unfolding descriptor-in on with-brackets bracket-bits
   fields-of-row =
       let b = bracket-bits r in

@@ -2,7 +2,7 @@
 use mathlib.Core.Path.{refl}
 use Rattle.model.specs.Run.{single-count}
 use Rattle.model.specs.Cases.{left-by, Holds, about-to-do, about-to, gated, through-pointer, returning, case-12-registers, case-12-words, case-12, pointers-up, through-pointers, case, thirteen, All-hold, Cases-hold}
-use Rattle.model.specs.Readings.{doing, through, with-descriptors, holding, started, ended, with-start, stored-one, todays-one, loading, delivering, restoring, row, rows-of-one, Readings}
+use Rattle.model.specs.Readings.{doing, through, with-descriptors, holding, started, ended, with-start, stored-one, todays-one, loading, delivering, restoring, row, old-segment, rows-of-one, Readings}
 use Rattle.model.proofs.Computing.{by-computation}
 
 pub thirteen-cases-hold : Cases-hold thirteen
@@ -46,7 +46,7 @@ thirteen-cases-hold = (
 )
 
 pub readings-hold : Readings
-unfolding by-computation single-count left-by Holds about-to-do about-to through-pointer case-12-registers case-12-words case-12 pointers-up through-pointers doing through with-descriptors holding started ended with-start stored-one todays-one loading delivering restoring row rows-of-one
+unfolding by-computation single-count left-by Holds about-to-do about-to through-pointer case-12-registers case-12-words case-12 pointers-up through-pointers doing through with-descriptors holding started ended with-start stored-one todays-one loading delivering restoring row old-segment rows-of-one
 readings-hold =
     record {
       empty-file-is-42 = refl;
@@ -135,6 +135,17 @@ readings-hold =
       no-rows-for-no-segments = refl;
       table-sets-six-fields = refl;
       refused-table-writes-nothing = refl;
+      old-user-gets-rings-4 = refl;
+      old-system-gets-rings-0 = refl;
+      bit-44-is-56 = refl;
+      bit-63-is-56 = refl;
+      renewed-goes-back = refl;
+      V-off-is-57 = refl;
+      a-gate-is-57 = refl;
+      rings-4-4-5-are-57 = refl;
+      no-words-convert = refl;
+      first-failing-decides = refl;
+      failing-segment-stays = refl;
       gate-is-a-door = refl;
       gates-past-the-end-are-no-door = refl;
       gate-without-an-extension-is-no-door = refl;

@@ -33,6 +33,7 @@ pub mod OnceLaws
 pub mod ConvertLaws
 pub mod BracketLaws
 pub mod BracketingLaws
+pub mod OldLaws
 pub mod ListingLaws
 pub mod TickLaws
 pub mod CountedLaws

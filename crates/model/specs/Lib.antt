@@ -25,6 +25,8 @@ pub mod Convert
 pub mod Converted
 pub mod Brackets
 pub mod Bracketing
+pub mod Old
+pub mod Renewed
 pub mod Doors
 pub mod Lent
 pub mod Notation

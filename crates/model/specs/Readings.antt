@@ -2,7 +2,7 @@
 use mathlib.Core.Path.{_≡_}
 use mathlib.Core.List.{List, [], _∷_, _++_}
 use mathlib.Core.Option.{some}
-use Prim.Native.Nat.{ℕ, zero, suc, _+_}
+use Prim.Native.Nat.{ℕ, zero, suc, _+_, _*_, _^_}
 use Prim.Native.String.{String}
 use lib.ListN.{replicate, drop}
 use Rattle.model.specs.Registers.{Registers, Delivery, no-delivery, Machine, machine, with-pr}
@@ -13,6 +13,7 @@ use Rattle.model.specs.Check.{check}
 use Rattle.model.specs.Listing.{ascii, check-line}
 use Rattle.model.specs.Notation.{pointer, flag, segment, by-ipr, by-pr, indirect-by-pr, indirect-word, WD-records, image-with, image-of}
 use Rattle.model.specs.Brackets.{Row, set-brackets}
+use Rattle.model.specs.Old.{Way, from-old, to-old, convert-words}
 use Rattle.model.specs.Doors.{doors-listing, doors-text}
 use Rattle.model.specs.Write.{bytes, stored-ST, ST-record}
 use Rattle.model.specs.Cases.{step-faults, ipr-becomes, pr-becomes, a-becomes, word-becomes, step-counts, run-lists, delivery-lists, image-prints, image-converts, left-by, Holds, about-to-do, about-to, through-pointer, case-12-registers, case-12, pointers-up, through-pointers}
@@ -78,6 +79,13 @@ rows-of-one (suc n) a = row a a 0 0 0 "" ∷ rows-of-one n (suc a)
 
 abbrev table-answers : (length : ℕ) → List Row → (number : ℕ) → Type 0
 table-answers l rows n = set-brackets (replicate 40 0) (record { address = 1; length = l }) rows .answer ≡ n
+
+-- an old descriptor, at address 5 with 3 words; and what a segment of words answers
+unfoldable pub old-segment : (flags : ℕ) → ℕ
+old-segment f = 5 + 3 * 2 ^ 24 + f * 2 ^ 40
+
+abbrev words-answer-with : Way → List ℕ → (number index : ℕ) → Type 0
+words-answer-with y ws n k = convert-words y ws .answer ≡ record { number = n; index = k }
 
 -- a machine's list of doors
 abbrev doors-are : Delivery → Machine → String → Type 0
@@ -194,6 +202,19 @@ pub record Readings : Type 0 where
       set-brackets (7 ∷ 18446744073709551615 ∷ 0 ∷ 9 ∷ []) (record { address = 1; length = 2 }) (row 0 1 1 2 3 "R E" ∷ []) .memory
       ≡ 7 ∷ 18445286121291120639 ∷ 3044547697311744 ∷ 9 ∷ []
   pub refused-table-writes-nothing : set-brackets (0 ∷ 0 ∷ []) (record { address = 0; length = 2 }) (row 0 0 1 1 1 "R" ∷ []) .memory ≡ 0 ∷ 0 ∷ []
+  -- OLD DESCRIPTORS (02, L9): bits 40 to 43 are R, W, E and user, the bits above them 56; of today's 57 asks V, GATE and rings
+  pub old-user-gets-rings-4 : convert-words from-old (old-segment 9 ∷ []) .words ≡ segment 5 3 4 4 4 "R V" 0 ∷ []
+  pub old-system-gets-rings-0 : convert-words from-old (old-segment 6 ∷ []) .words ≡ segment 5 3 0 0 0 "W E V" 0 ∷ []
+  pub bit-44-is-56 : words-answer-with from-old (old-segment 16 ∷ []) 56 0
+  pub bit-63-is-56 : words-answer-with from-old (2 ^ 63 ∷ []) 56 0
+  pub renewed-goes-back : convert-words to-old (segment 5 3 4 4 4 "R E V" 0 ∷ []) .words ≡ old-segment 13 ∷ []
+  pub V-off-is-57 : words-answer-with to-old (segment 5 3 4 4 4 "R" 0 ∷ []) 57 0
+  pub a-gate-is-57 : words-answer-with to-old (segment 5 3 0 0 0 "E V" 1 ∷ []) 57 0
+  pub rings-4-4-5-are-57 : words-answer-with to-old (segment 5 3 4 4 5 "V" 0 ∷ []) 57 0
+  pub no-words-convert : words-answer-with to-old [] 0 0
+  -- the first that fails decides, and nothing is written then
+  pub first-failing-decides : words-answer-with from-old (0 ∷ old-segment 16 ∷ 0 ∷ old-segment 32 ∷ []) 56 1
+  pub failing-segment-stays : convert-words from-old (0 ∷ old-segment 16 ∷ []) .words ≡ 0 ∷ old-segment 16 ∷ []
   -- THE DOORS (02, L10): R3 above R2, E on and a gate that the segment has; then, with the switch on, where a fault leads
   pub gate-is-a-door : doors-are no-delivery case-12 "door 5 0 2 5 1\ndoors 1\n"
   pub gates-past-the-end-are-no-door : doors-are (delivering 1) (about-to CALL 4 4 1 (segment 3 4 1 2 5 "E V" 9)) "door 1 3 3 5 2\nfaults 1 3\ndoors 1\n"

@@ -6,7 +6,7 @@ use native.Mathlib.Nat.{add-zero}
 use native.Mathlib.Omega.{arith}
 use lib.ListN.{length, take, drop, set, take-append-drop, length-append, length-set}
 use lib.Seq.{length-take-le, take-at, drop-append-add, drop-drop, sets, sets-eq, length-sets, set-comm}
-use Rattle.text.specs.Text.{placed}
+use Rattle.text.specs.Text.{placed, Put}
 
 -- what is put is stored byte by byte
 placed-sets : (a : ℕ) (bs t : List ℕ) → a + length bs ≤ length t → placed a bs t ≡ sets t a bs
@@ -103,3 +103,13 @@ module _ (a b c : ℕ) (xs ys : List ℕ) where
 pub placed-none : (a : ℕ) (t : List ℕ) → placed a [] t ≡ t
 unfolding placed
 placed-none a t = ap (λ k. take a t ++ [] ++ drop k t) (add-zero a) ∙ ap (λ xs. xs ++ drop a t) (append-nil (take a t)) ∙ take-append-drop a t
+
+-- one part after another
+pub both-put : (k m n a b c : ℕ) (xs ys t u w : List ℕ) → Put m a xs t u b → Put n b ys u w c → k ≡ m + n → a + k ≤ length t → Put k a (xs ++ ys) t w c
+both-put k m n a b c xs ys t u w p q e h =
+    (put-after a b c xs ys t u w (p .0) (p .1) (q .0) (q .1) (omega arith), next-after a b c xs ys (p .1) (q .1), omega arith)
+
+-- a part less to put
+pub rest-to-put : (n a b : ℕ) (xs ys t u z : List ℕ) → Put n a xs t u b → a + length (xs ++ ys) ≤ length t → placed a (xs ++ ys) t ≡ z → placed b ys u ≡ z
+rest-to-put n a b xs ys t u z p h e =
+    ap (placed b ys) (p .0) ∙ ap (λ k. placed k ys (placed a xs t)) (p .1) ∙ placed-append a xs ys t h ∙ e

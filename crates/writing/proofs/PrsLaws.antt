@@ -12,8 +12,7 @@ use Rattle.model.specs.Write.{pointer-bytes, pointers-bytes}
 use Rattle.model.proofs.WriteLaws.{length-pointer-bytes, length-pointers-bytes}
 use Rattle.state.specs.View.{pointers-in, as-pointers, pr-of}
 use Rattle.text.specs.Text.{placed, Put}
-use Rattle.text.proofs.TextLaws.{placed-none}
-use Rattle.writing.proofs.PutLaws.{rest-to-put}
+use Rattle.text.proofs.TextLaws.{placed-none, rest-to-put}
 
 -- the bytes of those from PR k on
 abbrev pub prs-from : (k : ℕ) → (prs : List ℕ) → List ℕ

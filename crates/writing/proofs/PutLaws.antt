@@ -12,17 +12,7 @@ use Rattle.model.specs.Registers.{Registers, Delivery, Machine}
 use Rattle.model.specs.Listing.{ascii}
 use Rattle.model.specs.Write.{bytes, pointer-bytes, pointers-bytes, ME-record, stored-ST, delivery-bytes, ST-record, WD-record, RN-record, word-records, written-image}
 use Rattle.text.specs.Text.{placed, Put}
-use Rattle.text.proofs.TextLaws.{length-placed, placed-none, placed-append, next-after, put-after}
-
--- one part after another
-both-put : (k m n a b c : ℕ) (xs ys t u w : List ℕ) → Put m a xs t u b → Put n b ys u w c → k ≡ m + n → a + k ≤ length t → Put k a (xs ++ ys) t w c
-both-put k m n a b c xs ys t u w p q e h =
-    (put-after a b c xs ys t u w (p .0) (p .1) (q .0) (q .1) (omega arith), next-after a b c xs ys (p .1) (q .1), omega arith)
-
--- a part less to put
-pub rest-to-put : (n a b : ℕ) (xs ys t u z : List ℕ) → Put n a xs t u b → a + length (xs ++ ys) ≤ length t → placed a (xs ++ ys) t ≡ z → placed b ys u ≡ z
-rest-to-put n a b xs ys t u z p h e =
-    ap (placed b ys) (p .0) ∙ ap (λ k. placed k ys (placed a xs t)) (p .1) ∙ placed-append a xs ys t h ∙ e
+use Rattle.text.proofs.TextLaws.{length-placed, placed-none, both-put}
 
 -- a mark and a number
 pub marked-put : (a b c v : ℕ) (mark t u w : List ℕ) → u ≡ placed a mark t → b ≡ a + length mark → length mark ≡ 2 → Put 4 b (bytes 4 v) u w c

@@ -11,8 +11,7 @@ use lib.Seq.{drop-cons}
 use Rattle.model.specs.Write.{WD-record, word-records}
 use Rattle.model.proofs.WriteLaws.{length-word-records}
 use Rattle.text.specs.Text.{placed, Put}
-use Rattle.text.proofs.TextLaws.{placed-none}
-use Rattle.writing.proofs.PutLaws.{rest-to-put}
+use Rattle.text.proofs.TextLaws.{placed-none, rest-to-put}
 
 -- the record of a word, and those from a word on
 abbrev pub record-of : (k : ℕ) → (memory : List ℕ) → List ℕ

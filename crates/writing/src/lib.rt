@@ -11,7 +11,7 @@ use crate::start::put_start;
 use host::record::Registers;
 
 mod memory;
-mod number;
+pub mod number;
 mod start;
 
 // ME, ST, a WD for each word that isn't zero, and RN, from the front of the text; the answer is how many bytes they have.
