@@ -2,7 +2,7 @@
 use host::record::Registers;
 use libc::STDOUT_FILENO;
 
-// There is room for a line of each segment, and two more.
+// There is room for a line of every segment.
 fn print_listing(registers: Registers, memory: &[u64]) {
     let mut text = [0u8; 131136];
     let size = doorways::put_listing(&mut text, registers, memory);

@@ -45,6 +45,7 @@ fn last_gate(d: Descriptor) -> u64
     length - 1
 }
 
+// A door's line.
 pub fn put_door(text: &mut [u8], at: usize, segment: usize, d: Descriptor) -> usize
     requires { ⌜ (at + 32 ≤ length (now text)) × (segment ≤ 4095) × (leads-down (descriptor-in (d .0)) ≡ true) ⌝ }
     ensures { λ r. ⌜ Put 32 at (door-line (door-by segment (descriptor-in (d .0)))) (now (text .entry)) (now (text .exit)) r ⌝ }

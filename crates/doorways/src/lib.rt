@@ -65,8 +65,8 @@ fn put_faults(text: &mut [u8], at: usize, delivery: Delivery) -> usize
     at
 }
 
-// 1 to 4, then the list: what the program prints of an image with this start, whatever its budget. There is room for a line of
-// each segment, and two more.
+// 1 to 4, then the list: what the program prints of an image with this start, whatever its budget. There is room for 4,096 lines
+// of 32 bytes, and two more.
 pub fn put_listing(text: &mut [u8], registers: Registers, memory: &[u64]) -> usize
     requires { ⌜ 131136 ≤ length (now text) ⌝ }
     ensures { λ r. ⌜ ((budget : ℕ) → Put 131136 0 (image-doors (checked (delivery-of registers) (machine-of registers (now (memory .entry))) budget)) (now (text .entry)) (now (text .exit)) r) ⌝ }
