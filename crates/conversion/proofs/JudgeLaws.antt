@@ -11,17 +11,17 @@ use Rattle.machine.specs.declared.Prepared.{Prepared}
 use Rattle.machine.specs.Answered.{Prepared-as}
 use Rattle.loading.specs.declared.Loading.{Loading}
 use Rattle.loading.specs.View.{as-loading, Loading-within}
-use Rattle.image.proofs.LoadLaws.{words-within, loaded-delivery, loaded-machine}
+use Rattle.image.proofs.LoadLaws.{words-within, loaded-delivery, loaded-full}
 
-module _ (l : Loading) (m : List ℕ) (w : Loading-within l m) (h : l .«has_memory» ≡ true) where
+module _ (l : Loading) (m : List ℕ) (w : Loading-within l m) (full : length m ≡ 8320) (h : l .«has_memory» ≡ true) where
   pub memory-part : l .words ≤ length m
-  memory-part = words-within l m w h
+  memory-part = words-within l m w full h
 
   pub memory-part-size : l .words ≡ length (take (l .words) m)
   memory-part-size = sym (length-take-le (l .words) m memory-part)
 
   pub judged-by : l .«has_registers» ≡ true → (x : Prepared) (m-now : List ℕ) → Prepared-as (l .registers) (take (l .words) m) x m-now →
       x .number ≡ start-questions (as-loading l m .delivery) (Image.machine-of (as-loading l m))
-  judged-by g x m-now p = p .asked ∙ ap₂ start-questions (sym (loaded-delivery l m)) (sym (loaded-machine l m h g))
+  judged-by g x m-now p = p .asked ∙ ap₂ start-questions (sym (loaded-delivery l m)) (sym (loaded-full l m full h g))
 
 pub ruleset judges = (memory-part, memory-part-size, judged-by)

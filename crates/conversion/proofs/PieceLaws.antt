@@ -19,7 +19,7 @@ use Rattle.model.proofs.OverwrittenLaws.{last-of-each-loads}
 use Rattle.loading.specs.declared.Loading.{Loading}
 use Rattle.loading.specs.View.{as-loading, Loading-within}
 use Rattle.loading.specs.Record.{Goes, outcome-image}
-use Rattle.loading.proofs.RecordLaws.{within-still}
+use Rattle.loading.proofs.RecordLaws.{within-still, still-sized}
 use Rattle.image.specs.declared.load.LoadOutcome.the-variants as Load
 use Rattle.image.specs.declared.load.Loaded.{Loaded}
 use Rattle.image.specs.Load.{Loaded-as}
@@ -93,7 +93,7 @@ module _ (l : Loading) (m t : List ℕ) (kept size : ℕ) (e : Bool) (x : Loaded
       within-judged : Loading-within (x .loading) m-judged
       within-judged =
           record {
-            sized = l-judged ∙ w .within .sized;
+            sized = still-sized (x .loading .«is_stored») m-now (w .within .sized) m-judged l-judged;
             memory-within = within-still (x .loading .«has_memory») (x .loading .words) m-now (w .within .memory-within) ready-memory m-judged;
           }
 
