@@ -88,7 +88,7 @@ module _ (l : Loading) (m piece : List ℕ) (e : Bool) (x : Loaded) (m-now u : L
   pub kept-few : (n : ℕ) → x .outcome ≡ More n → n < 66
   kept-few n o = subst (Piece-within e (x .loading)) o (w .outcome-within) .1
 
-  pub piece-words : (b : ℕ) → x .outcome ≡ Ready b → length m ≡ 8320 → x .loading .words ≤ length m-now
-  piece-words b o full = words-within (x .loading) m-now (w .within) (w .size-same ∙ full) (subst (Piece-within e (x .loading)) o (w .outcome-within) .1)
+  pub piece-words : (b : ℕ) → x .outcome ≡ Ready b → length m-now ≡ 8320 → x .loading .words ≤ length m-now
+  piece-words b o full = words-within (x .loading) m-now (w .within) full (subst (Piece-within e (x .loading)) o (w .outcome-within) .1)
 
 pub ruleset read-pieces = (piece-within, kept-few, piece-words)
