@@ -50,6 +50,7 @@ module _ (l : Loading) (m t : List ℕ) (kept size : ℕ) (e : Bool) (x : Loaded
   unfolding Piece-judged Judged-as Buffer-after Piece-within Goes outcome-image
   piece-refused n o =
       record {
+        size-same = w .size-same;
         within = w .within;
         judged = λ rest z. w .goes rest z ∙ rw o;
         buffer-after = refl;
@@ -72,6 +73,7 @@ module _ (l : Loading) (m t : List ℕ) (kept size : ℕ) (e : Bool) (x : Loaded
     unfolding Piece-judged Judged-as Buffer-after Piece-within Goes outcome-image
     piece-more =
         record {
+          size-same = w .size-same;
           within = w .within;
           judged = λ rest z. w .goes rest z ∙ rw o (ap (λ ys. Image.image-after (as-loading (x .loading) m-now) (ys ++ rest)) still-waiting);
           buffer-after = refl;
@@ -106,6 +108,7 @@ module _ (l : Loading) (m t : List ℕ) (kept size : ℕ) (e : Bool) (x : Loaded
       unfolding Piece-judged Judged-as Buffer-after Piece-within
       piece-judged-no f =
           record {
+            size-same = l-judged ∙ w .size-same;
             within = within-judged;
             judged = λ rest z. whole rest z ∙ checked-refused _ _ b n asked f;
             buffer-after = refl;
@@ -117,6 +120,7 @@ module _ (l : Loading) (m t : List ℕ) (kept size : ℕ) (e : Bool) (x : Loaded
       unfolding Piece-judged Judged-as Buffer-after Piece-within
       piece-ready f k u c =
           record {
+            size-same = l-judged ∙ w .size-same;
             within = within-judged;
             judged =
                 λ rest z.

@@ -10,9 +10,9 @@ use borrow.Author.Tests.{ne-eqb}
 use Rattle.model.specs.Registers.{Delivery, Machine}
 use Rattle.model.specs.Run.{Reply, refused, spent, halted, fault, run, Traced, trace, total}
 use Rattle.model.specs.Answers.{reply-numbers}
-use Rattle.model.specs.Listing.{ascii, digits, decimal, line, step-line, step-lines, refusal-line, last-line, listing}
-use Rattle.model.specs.Needs.{Needs, needs-of}
-use Rattle.model.specs.Needed.{lines-in, Needs-enough}
+use Rattle.model.specs.Listing.{ascii, digits, decimal, line, step-line, step-lines, refusal-line, last-line, listing, image-listing, image-text}
+use Rattle.model.specs.Needs.{Needs, needs-of, image-needs}
+use Rattle.model.specs.Needed.{lines-in, Needs-enough, Text-within}
 use Rattle.model.proofs.BranchLaws.{cond-holds}
 use Rattle.model.proofs.CountLaws.{run-counts}
 use Rattle.model.proofs.CountedLaws.{total-within}
@@ -108,3 +108,8 @@ needs-are-enough bs v m b e k h =
       steps-within = subst (λ (x : Needs). reply-numbers (run v k m .reply) .count ≤ x .budget) (sym n) (steps-enough v m b k h);
       memory-same = run-counts v k m .2 ∙ sym (ap (λ (x : Needs). x .memory) n);
     }
+
+pub text-within : Text-within
+unfolding image-text image-listing
+text-within bs v m b e =
+    subst (λ i. lines-in (image-listing i) ≤ image-needs bs .lines) (sym e) (needs-are-enough bs v m b e b (omega arith) .lines-within)

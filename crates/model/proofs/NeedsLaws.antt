@@ -3,7 +3,7 @@ use mathlib.Core.Path.{_≡_, refl, sym, _∙_, ap, ap₂, subst}
 use mathlib.Core.Bool.{_&&_, not, cond}
 use mathlib.Core.List.{List, [], _∷_, _++_}
 use mathlib.Core.Option.{Option, none, some}
-use Prim.Native.Nat.{ℕ, zero, suc, _+_, _*_, _≤_}
+use Prim.Native.Nat.{ℕ, zero, suc, _+_, _-_, _*_, _/_, _≤_}
 use native.Mathlib.Omega.{arith}
 use lib.Dec.{leb, eqb, lit≤}
 use lib.ListN.{length, take, drop, length-append, length-set}
@@ -14,7 +14,7 @@ use Rattle.model.specs.Run.{unless-refused}
 use Rattle.model.specs.Image.{today, sizing, Mark, ME, ST, WD, RN, mark-of, start-size, record-size, number-at, delivery-at, Loading, nothing-loaded, has, or-else, memory-of, zero-registers, machine-of, in-order, address-allowed, unless-written, address-new, record-questions, with-written, words-with, with-word, with-record, Image, refused-image, loaded, checked, record-on, whole-record-on, marked-on, bytes-on, image-from, image-after, image}
 use Rattle.model.specs.Convert.{size-by, front-size, records-from, records, joined, left-over, is-word}
 use Rattle.model.specs.Needs.{needs-of, word-count, needs-on, image-needs}
-use Rattle.model.specs.Needed.{Needs-refused, Needs-accepted}
+use Rattle.model.specs.Needed.{Needs-refused, Needs-accepted, Needs-by-length}
 use Rattle.model.proofs.BranchLaws.{cond-rel, cond-holds, and-left, and-right}
 use Rattle.model.proofs.QuestionLaws.{asked-by-size}
 use Rattle.model.proofs.CutLaws.{All-whole, cut}
@@ -253,10 +253,19 @@ accepted-bytes-after l (x ∷ xs) t d m b r w z e =
     let i = length-append (joined xs) t in
     omega arith
 
-pub accepted-bytes : (bs : List ℕ) (d : Delivery) (m : Machine) (b : ℕ) → image-after (nothing-loaded sizing) bs ≡ loaded d m b →
+accepted-bytes : (bs : List ℕ) (d : Delivery) (m : Machine) (b : ℕ) → image-after (nothing-loaded sizing) bs ≡ loaded d m b →
     length bs ≡ 78 + 14 * word-count (records sizing bs)
 unfolding has
 accepted-bytes bs d m b e =
     let c = cut sizing bs in
     ap length (sym (c .same)) ∙ accepted-bytes-after (nothing-loaded sizing) (records sizing bs) (left-over sizing bs) d m b refl (c .all-whole) (c .none-after)
     (ap (image-after (nothing-loaded sizing)) (c .same) ∙ e)
+
+pub needs-by-length : Needs-by-length
+unfolding image-needs needs-on
+needs-by-length bs = by-image (image-after (nothing-loaded sizing) bs) refl
+  where
+    by-image : (i : Image) → image-after (nothing-loaded sizing) bs ≡ i → needs-on i (word-count (records sizing bs)) ≡ needs-on i ((length bs - 78) / 14)
+    by-image (refused-image n) e = refl
+    by-image (loaded v m b) e =
+        ap (λ w. needs-of (length (m .memory)) w b) (let h = accepted-bytes bs v m b e in let q : word-count (records sizing bs) ≡ (length bs - 78) / 14 = omega arith in q)

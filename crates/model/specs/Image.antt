@@ -146,6 +146,7 @@ with-written stored a w = w
 with-written today a w = λ b. eqb a b || w b
 with-written sizing a w = λ b. eqb a b || w b
 
+-- a WD's word in its place, where words are kept
 unfoldable pub words-with : Rules → (address word : ℕ) → List ℕ → List ℕ
 words-with stored a v m = set m a v
 words-with today a v m = set m a v

@@ -3,16 +3,16 @@
 use mathlib.Core.Path.{_≡_}
 use mathlib.Core.Bool.{cond}
 use mathlib.Core.List.{List, [], _∷_}
-use Prim.Native.Nat.{ℕ, suc, _≤_}
+use Prim.Native.Nat.{ℕ, suc, _-_, _/_, _≤_}
 use lib.Dec.{eqb}
 use lib.ListN.{length}
 use Rattle.model.specs.Registers.{Delivery, Machine}
 use Rattle.model.specs.Run.{run, total}
 use Rattle.model.specs.Answers.{reply-numbers}
-use Rattle.model.specs.Image.{today, refused-image, loaded, image}
-use Rattle.model.specs.Listing.{listing}
+use Rattle.model.specs.Image.{today, sizing, nothing-loaded, refused-image, loaded, image-after, image}
+use Rattle.model.specs.Listing.{listing, image-text}
 use Rattle.model.specs.Convert.{records}
-use Rattle.model.specs.Needs.{needs-refused, needs-of, word-count, image-needs}
+use Rattle.model.specs.Needs.{needs-refused, needs-of, word-count, needs-on, image-needs}
 
 -- REFUSED JUST AS LOADING IS, with the same number, which is never 0
 abbrev pub Needs-refused : Type 0
@@ -23,6 +23,10 @@ abbrev pub Needs-accepted : Type 0
 Needs-accepted =
     (bs : List ℕ) (v : Delivery) (m : Machine) (b : ℕ) → image bs ≡ loaded v m b →
     image-needs bs ≡ needs-of (length (m .memory)) (word-count (records today bs)) b
+
+-- an accepted image has 78 bytes for ME, ST and RN, and 14 for each WD: its length says how many there are
+abbrev pub Needs-by-length : Type 0
+Needs-by-length = (bs : List ℕ) → image-needs bs ≡ needs-on (image-after (nothing-loaded sizing) bs) ((length bs - 78) / 14)
 
 -- how many lines a text has: each ends with a newline
 unfoldable pub lines-in : (text : List ℕ) → ℕ
@@ -38,3 +42,7 @@ pub record Run-within (bs : List ℕ) (v : Delivery) (k : ℕ) (m : Machine) : T
 
 abbrev pub Needs-enough : Type 0
 Needs-enough = (bs : List ℕ) (v : Delivery) (m : Machine) (b : ℕ) → image bs ≡ loaded v m b → (k : ℕ) → k ≤ b → Run-within bs v k m
+
+-- nor does the text that it prints
+abbrev pub Text-within : Type 0
+Text-within = (bs : List ℕ) (v : Delivery) (m : Machine) (b : ℕ) → image bs ≡ loaded v m b → lines-in (image-text bs) ≤ image-needs bs .lines

@@ -1,4 +1,4 @@
--- 02, L12: what an image will need, worked out from its records: no memory is built and no step taken. Assumes nothing: these are definitions.
+-- 02, L12: what an image will need, worked out from its records: no word of it is kept, and no step taken. Assumes nothing: these are definitions.
 use mathlib.Core.Bool.{cond}
 use mathlib.Core.List.{List, [], _∷_, _++_}
 use Prim.Native.Nat.{ℕ, suc, _+_, _*_}
