@@ -19,7 +19,7 @@ use Rattle.model.proofs.OverwrittenLaws.{last-of-each-loads}
 use Rattle.loading.specs.declared.Loading.{Loading}
 use Rattle.loading.specs.View.{as-loading, Loading-within}
 use Rattle.loading.specs.Record.{Goes, outcome-image}
-use Rattle.loading.proofs.RecordLaws.{within-still}
+use Rattle.loading.proofs.RecordLaws.{within-still, still-sized}
 use Rattle.image.specs.declared.load.LoadOutcome.the-variants as Load
 use Rattle.image.specs.declared.load.Loaded.{Loaded}
 use Rattle.image.specs.Load.{Loaded-as}
@@ -50,6 +50,7 @@ module _ (l : Loading) (m t : List ℕ) (kept size : ℕ) (e : Bool) (x : Loaded
   unfolding Piece-judged Judged-as Buffer-after Piece-within Goes outcome-image
   piece-refused n o =
       record {
+        size-same = w .size-same;
         within = w .within;
         judged = λ rest z. w .goes rest z ∙ rw o;
         buffer-after = refl;
@@ -72,6 +73,7 @@ module _ (l : Loading) (m t : List ℕ) (kept size : ℕ) (e : Bool) (x : Loaded
     unfolding Piece-judged Judged-as Buffer-after Piece-within Goes outcome-image
     piece-more =
         record {
+          size-same = w .size-same;
           within = w .within;
           judged = λ rest z. w .goes rest z ∙ rw o (ap (λ ys. Image.image-after (as-loading (x .loading) m-now) (ys ++ rest)) still-waiting);
           buffer-after = refl;
@@ -93,7 +95,7 @@ module _ (l : Loading) (m t : List ℕ) (kept size : ℕ) (e : Bool) (x : Loaded
       within-judged : Loading-within (x .loading) m-judged
       within-judged =
           record {
-            sized = l-judged ∙ w .within .sized;
+            sized = still-sized (x .loading .«is_stored») m-now (w .within .sized) m-judged l-judged;
             memory-within = within-still (x .loading .«has_memory») (x .loading .words) m-now (w .within .memory-within) ready-memory m-judged;
           }
 
@@ -106,6 +108,7 @@ module _ (l : Loading) (m t : List ℕ) (kept size : ℕ) (e : Bool) (x : Loaded
       unfolding Piece-judged Judged-as Buffer-after Piece-within
       piece-judged-no f =
           record {
+            size-same = l-judged ∙ w .size-same;
             within = within-judged;
             judged = λ rest z. whole rest z ∙ checked-refused _ _ b n asked f;
             buffer-after = refl;
@@ -117,6 +120,7 @@ module _ (l : Loading) (m t : List ℕ) (kept size : ℕ) (e : Bool) (x : Loaded
       unfolding Piece-judged Judged-as Buffer-after Piece-within
       piece-ready f k u c =
           record {
+            size-same = l-judged ∙ w .size-same;
             within = within-judged;
             judged =
                 λ rest z.

@@ -1,5 +1,5 @@
 -- A stored image read in pieces: what each turn keeps, and each way out. Assumes nothing.
-use mathlib.Core.Path.{_≡_, sym, subst}
+use mathlib.Core.Path.{_≡_, sym, _∙_, subst}
 use mathlib.Core.Bool.{Bool}
 use mathlib.Core.List.{List, _++_}
 use Prim.Native.Nat.{ℕ, _+_, _-_, _≤_}
@@ -21,6 +21,9 @@ use Rattle.convert.specs.Turn.{Outcome-within, Progress-fits}
 module _ (l : Loading) (m t : List ℕ) (kept size : ℕ) (e : Bool) (x : Converted) (m-now u : List ℕ) (w : Piece-converted l m t kept size e x m-now u) where
   pub still-within : Loading-within (x .loading) m-now
   still-within = w .within
+
+  pub still-full : length m ≡ 8320 → length m-now ≡ 8320
+  still-full full = w .size-same ∙ full
 
   pub outcome-fits : size + 5 ≤ length t → (5 ≤ length u) × Outcome-within (x .outcome) size u
   unfolding Buffer-after Piece-within
@@ -72,7 +75,7 @@ new-size o u n h q = sym (length-take-le n u (new-image o u n h q))
 
 pub ruleset outcomes = (more-kept, more-size, ready-fits)
 
-pub ruleset turns = (still-within, outcome-fits, five-left, goes-on-within)
+pub ruleset turns = (still-within, still-full, outcome-fits, five-left, goes-on-within)
 
 pub ruleset limits = (limit-size, limit-room, limit-kept)
 

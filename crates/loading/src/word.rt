@@ -4,7 +4,7 @@ ghost use mathlib.Core.Option.{some};
 ghost use Prim.Native.Nat.{_≤_, _<_};
 ghost use lib.ListN.{length};
 ghost use Rattle.model.specs.Image as Image;
-ghost use Rattle.loading.specs.Record.{Asked-51, Recorded-in-store};
+ghost use Rattle.loading.specs.Record.{Asked-51, word-put, Recorded-in-store};
 ghost use Rattle.loading.specs.View.{Loading-within, rules-of};
 use crate::Loading;
 use crate::Outcome;
@@ -14,17 +14,28 @@ use fields::number::number_8;
 
 // 51: whether a WD may write the address; today it is then among those that one has had.
 fn may_write(is_stored: bool, store: &mut [u64], address: usize) -> bool
-    requires { ⌜ (length (now store) ≡ 8320) × (address < 8192) ⌝ }
+    requires { ⌜ (128 ≤ length (now store)) × (address < 8192) ⌝ }
     ensures { λ r. ⌜ Asked-51 (rules-of «is_stored») address (now (store .entry)) r (now (store .exit)) ⌝ }
 {
     if is_stored {
         return true;
     }
-    if addresses::is_in(&store[8192..], address) {
+    let at = store.len() - 128;
+    if addresses::is_in(&store[at..], address) {
         return false;
     }
-    addresses::put_in(&mut store[8192..], address);
+    addresses::put_in(&mut store[at..], address);
     true
+}
+
+// A word of memory, where the store has any.
+fn put_word(store: &mut [u64], address: usize, word: u64)
+    requires { ⌜ 128 ≤ length (now store) ⌝ }
+    ensures { λ _. ⌜ now (store .exit) ≡ word-put address word (now (store .entry)) ⌝ }
+{
+    if address < store.len() - 128 {
+        store[address] = word;
+    }
 }
 
 // WD: 42 before ME, 44, 51, and the word at its address.
@@ -52,7 +63,7 @@ pub fn load_word(loading: Loading, store: &mut [u64], bytes: &[u8]) -> Recorded
             outcome: Outcome::Refused(51),
         };
     }
-    store[i] = number_8(bytes, 6);
+    put_word(store, i, number_8(bytes, 6));
     Recorded {
         loading,
         outcome: Outcome::Next(14),
