@@ -146,5 +146,9 @@ readings-hold =
       no-words-convert = refl;
       first-failing-decides = refl;
       failing-segment-stays = refl;
+      gate-is-a-door = refl;
+      gates-past-the-end-are-no-door = refl;
+      gate-without-an-extension-is-no-door = refl;
+      refused-image-has-no-doors = refl;
       offset-goes-round = refl;
     }

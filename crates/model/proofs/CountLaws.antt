@@ -13,7 +13,7 @@ use Rattle.model.specs.Answers.{numbers, reply-numbers, step-numbers}
 use Rattle.model.specs.Ends.{Steps, no-step, one-more, Ends, by-refusal, by-fault, by-halt, by-budget, Run-counts, Fault-leaves, counted-from, Run-continues, Run-stays, Single-step-runs}
 use Rattle.model.proofs.ProgramLaws.{Size-kept}
 use Rattle.model.proofs.DeliverLaws.{step-keeps-size, step-keeps-passing}
-use Rattle.model.proofs.RunLaws.{Next, next-faults, next-halts, next-completes, next, run-faults, run-halts, run-completes, trace-faults, trace-halts, trace-completes, run-refused, run-goes, trace-refused, trace-goes, along-run}
+use Rattle.model.proofs.RunLaws.{Next, next-faults, next-halts, next-completes, next, run-faults, run-halts, run-completes, trace-faults, trace-halts, trace-completes, run-refused, run-goes, trace-refused, trace-goes, along-run, Onward, stays, steps, after-onward}
 use Rattle.model.proofs.EndsLaws.{steps-run, run-ends, ends-once}
 
 module _ (v : Delivery) where
@@ -21,6 +21,15 @@ module _ (v : Delivery) where
   pub steps-keep-passing : {n : ℕ} {m k : Machine} → Steps v n m k → start-questions v m ≡ 0 → start-questions v k ≡ 0
   steps-keep-passing no-step q = q
   steps-keep-passing (one-more {m = m} {l = l} e s) q = steps-keep-passing s (step-keeps-passing v m l q (inl e))
+
+  onward-passes : {m k : Machine} → Onward v m k → start-questions v m ≡ 0 → start-questions v k ≡ 0
+  onward-passes stays e = e
+  onward-passes {m} {k} (steps o) e = step-keeps-passing v m k e o
+
+  pub after-passes : (j : ℕ) (m : Machine) → start-questions v m ≡ 0 → start-questions v (after v j m) ≡ 0
+  unfolding after run-from ran
+  after-passes zero m e = subst (λ (x : Machine). start-questions v x ≡ 0) (sym (ap (λ (x : Ran). x .machine) (run-goes v 0 m e))) e
+  after-passes (suc j) m e = onward-passes (after-onward v j m) (after-passes j m e)
 
   -- counting from j more is only that
   pub run-from-shifts : (j b c : ℕ) (m : Machine) → run-from v b (j + c) m ≡ ran (counted-from j (run-from v b c m .reply)) (run-from v b c m .machine)

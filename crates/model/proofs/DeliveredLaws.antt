@@ -11,7 +11,7 @@ use lib.Seq.{getD-set-same, getD-set-other, take-length}
 use borrow.Author.Tests.{ltb-true, lt-ltb, leb-true, le-leb, eqb-true, eq-eqb}
 use Rattle.model.specs.Words.{field, Descriptor, descriptor-in, Pointer, pointer-in, pointer-word}
 use Rattle.model.specs.Registers.{Dbr, Registers, Delivery, no-delivery, Machine, machine, dbr-in, dbr-word, moved-by, with-ipr}
-use Rattle.model.specs.Questions.{Question, ask, then-ask, all, memory-fits, pointer-in-range, delivery-in-range, registers-in-range, rings-at-least, dbr-fits, start-questions, segment-questions, word-questions, use-questions, may-read, read-questions, part-questions}
+use Rattle.model.specs.Questions.{ask, then-ask, all, memory-fits, pointer-in-range, delivery-in-range, registers-in-range, rings-at-least, dbr-fits, start-questions, segment-questions, word-questions, may-read, read-questions, part-questions}
 use Rattle.model.specs.Program.{Program, Outcome, faults, completes, halts, descriptor-of, absolute-address, word-at, use-answer, or-fault, execute}
 use Rattle.model.specs.Reach.{segment-passes}
 use Rattle.model.specs.Step.{if-dbr-fits, read-words, registers-in, take-up, restore, step, pointer-words}
@@ -20,7 +20,7 @@ use Rattle.model.specs.Run.{refused, ran, unless-refused, run-on, run-fr
 use Rattle.model.specs.Delivered.{Can-deliver, Delivers-when, Delivered, Ends-with, with-delivery, without-delivery, Fault-ends, Completes-as-plain, Off-as-plain, Unsaved-as-plain, Frame-holds, Restores}
 use Rattle.model.proofs.BranchLaws.{and-left, and-right, and-both}
 use Rattle.model.proofs.WordLaws.{field-within-width, Within, in-range-within, pointer-word-reads-back}
-use Rattle.model.proofs.ProgramLaws.{or-fault-yes}
+use Rattle.model.proofs.ProgramLaws.{answer-yes, or-fault-yes}
 use Rattle.model.proofs.QuestionLaws.{segment-within-memory}
 use Rattle.model.proofs.SoundLaws.{passing-fits}
 use Rattle.model.proofs.DeliverLaws.{length-with-words, on-delivery}
@@ -199,11 +199,6 @@ take-drop-more : (xs : List ℕ) (a n : ℕ) → a < length xs → take (suc n) 
 take-drop-more [] a n h = absurd (omega arith)
 take-drop-more (x ∷ xs) zero n h = refl
 take-drop-more (x ∷ xs) (suc a) n h = take-drop-more xs a n (omega arith)
-
-answer-yes : (m : Machine) (t : Pointer) (q : Question) → segment-questions (length (m .memory)) (m .registers .dbr) (t .segment) (descriptor-of m (t .segment)) ≡ 0 →
-    t .word < descriptor-of m (t .segment) .length → q (descriptor-of m (t .segment)) ≡ 0 → use-answer m t q ≡ 0
-unfolding use-answer use-questions word-questions then-ask ask
-answer-yes m t q e l f = rw (e, lt-ltb (t .word) (descriptor-of m (t .segment) .length) l, f)
 
 descriptor-length-within : (m : Machine) (s : ℕ) → descriptor-of m s .length ≤ 65535
 unfolding descriptor-of descriptor-in

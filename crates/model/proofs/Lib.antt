@@ -5,7 +5,11 @@ pub mod WordLaws
 pub mod WriteLaws
 pub mod QuestionLaws
 pub mod TableLaws
+pub mod UnprivilegedLaws
 pub mod ProgramLaws
+pub mod PreconditionLaws
+pub mod AddressLaws
+pub mod DescriptorLaws
 pub mod ReachLaws
 pub mod LeavesLaws
 pub mod FitLaws

@@ -3,9 +3,10 @@ use mathlib.Core.Path.{_≡_, refl}
 use Prim.Native.Nat.{ℕ, zero, suc, _≤_, _<_}
 use native.Mathlib.Omega.{arith}
 use lib.ListN.{length, length-set}
+use borrow.Author.Tests.{lt-ltb}
 use Rattle.model.specs.Words.{Pointer}
 use Rattle.model.specs.Registers.{Machine, machine}
-use Rattle.model.specs.Questions.{Question, use-questions}
+use Rattle.model.specs.Questions.{ask, then-ask, Question, segment-questions, word-questions, use-questions}
 use Rattle.model.specs.Program.{Program, fail, finish, halt, look, read, tick, write, Outcome, faults, completes, halts, descriptor-of, absolute-address, use-answer, or-fault, execute}
 use Rattle.model.proofs.QuestionLaws.{then-ask-yes, use-passes-segment, word-within-segment, segment-within-memory}
 
@@ -16,6 +17,11 @@ use-passes m t = use-questions (length (m .memory)) (m .registers .dbr) t (descr
 pub answer-passes : (m : Machine) (t : Pointer) (q : Question) → use-answer m t q ≡ 0 → use-passes m t × (q (descriptor-of m (t .segment)) ≡ 0)
 unfolding use-answer use-passes
 answer-passes m t q e = then-ask-yes _ _ e
+
+pub answer-yes : (m : Machine) (t : Pointer) (q : Question) → segment-questions (length (m .memory)) (m .registers .dbr) (t .segment) (descriptor-of m (t .segment)) ≡ 0 →
+    t .word < descriptor-of m (t .segment) .length → q (descriptor-of m (t .segment)) ≡ 0 → use-answer m t q ≡ 0
+unfolding use-answer use-questions word-questions then-ask ask
+answer-yes m t q e l f = rw (e, lt-ltb (t .word) (descriptor-of m (t .segment) .length) l, f)
 
 pub address-within-memory : (m : Machine) (t : Pointer) → use-passes m t → absolute-address m t < length (m .memory)
 unfolding absolute-address use-passes

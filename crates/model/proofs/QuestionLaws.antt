@@ -15,6 +15,10 @@ unfolding ask
 ask-yes true n x e = (refl, e)
 ask-yes false n x e = absurd (let z : suc n ≡ 0 = e in omega arith)
 
+pub ask-both : (b : Bool) (n x : ℕ) → b ≡ true → x ≡ 0 → ask b n x ≡ 0
+unfolding ask
+ask-both b n x e h = rw e h
+
 pub then-ask-yes : (k x : ℕ) → then-ask k x ≡ 0 → (k ≡ 0) × (x ≡ 0)
 unfolding then-ask
 then-ask-yes zero x e = (refl, e)
@@ -28,10 +32,16 @@ then-ask-same {c} {d} {x} {y} p f = subst (λ z. then-ask c x ≡ then-ask z y) 
     by-answer zero f = f refl
     by-answer (suc c) f = refl
 
--- 11, and 14
+-- 11, 13 and 14
 pub segment-known : (n : ℕ) (b : Dbr) (s : ℕ) (d : Descriptor) → segment-questions n b s d ≡ 0 → s < b .length
 unfolding segment-questions
 segment-known n b s d e = ltb-true _ _ (ask-yes _ _ _ e .0)
+
+pub segment-rings : (n : ℕ) (b : Dbr) (s : ℕ) (d : Descriptor) → segment-questions n b s d ≡ 0 → (d .r1 ≤ d .r2) × (d .r2 ≤ d .r3)
+unfolding segment-questions
+segment-rings n b s d e =
+    let x = ask-yes _ _ _ (ask-yes _ _ _ (ask-yes _ _ _ e .1) .1) .0 in
+    (leb-true _ _ (and-left (leb (d .r1) (d .r2)) _ x), leb-true _ _ (and-right (leb (d .r1) (d .r2)) _ x))
 
 pub segment-within-memory : (n : ℕ) (b : Dbr) (s : ℕ) (d : Descriptor) → segment-questions n b s d ≡ 0 → d .address + d .length ≤ n
 unfolding segment-questions

@@ -1,6 +1,7 @@
 -- Runs one step at a time, and an induction along the run. Assumes nothing.
 use mathlib.Core.Path.{_≡_, refl}
 use mathlib.Core.List.{[], _∷_}
+use mathlib.Core.Logic.{_⊎_, inl, inr}
 use Prim.Native.Nat.{ℕ, zero, suc}
 use Rattle.model.specs.Words.{Pointer}
 use Rattle.model.specs.Registers.{Delivery, Machine}
@@ -8,7 +9,7 @@ use Rattle.model.specs.Questions.{start-questions}
 use Rattle.model.specs.Program.{Outcome, faults, completes, halts}
 use Rattle.model.specs.Step.{pointer-words}
 use Rattle.model.specs.Deliver.{step-with}
-use Rattle.model.specs.Run.{refused, spent, halted, fault, Ran, ran, unless-refused, run-on, run-from, run, traced, trace-on, trace-from, trace}
+use Rattle.model.specs.Run.{refused, spent, halted, fault, Ran, ran, unless-refused, run-on, run-from, run, after, traced, trace-on, trace-from, trace}
 
 module _ (v : Delivery) where
   -- A STEP FAULTS, HALTS OR COMPLETES
@@ -81,3 +82,28 @@ module _ (v : Delivery) where
     unfolding run-from
     along-run zero c m = at-budget c m
     along-run (suc b) c m = run-next b c m (λ k. along-run b (suc c) k) (next m)
+
+  -- WITH ONE STEP MORE stands what the step leaves, or the same where the run has ended
+  pub data Onward (m : Machine) : Machine → Type 0 where
+    stays : Onward m m
+    steps : {k : Machine} → (step-with v m ≡ completes k) ⊎ (step-with v m ≡ halts k) → Onward m k
+
+  run-onward : (b c : ℕ) (m : Machine) → Onward (run-from v b c m .machine) (run-from v (suc b) c m .machine)
+  unfolding ran
+  run-onward =
+      along-run (λ b c m x. Onward (x .machine) (run-from v (suc b) c m .machine)) (λ c m. from-start c m (next m))
+      (λ b c n t m e. rw (run-faults (suc b) c n t m e) stays) (λ b c m k e. rw (run-halts (suc b) c m k e) stays)
+      (λ b c m k e h. rw (run-completes (suc b) c m k e) h)
+    where
+      from-start : (c : ℕ) (m : Machine) → Next m → Onward m (run-from v 1 c m .machine)
+      from-start c m (next-faults n t e) = rw (run-faults 0 c n t m e) stays
+      from-start c m (next-halts k e) = rw (run-halts 0 c m k e) (steps (inr e))
+      from-start c m (next-completes k e) = rw (run-completes 0 c m k e) (unfold run-from in steps (inl e))
+
+  pub after-onward : (j : ℕ) (m : Machine) → Onward (after v j m) (after v (suc j) m)
+  unfolding after ran
+  after-onward j m = by-answer (start-questions v m) refl
+    where
+      by-answer : (a : ℕ) → start-questions v m ≡ a → Onward (run v j m .machine) (run v (suc j) m .machine)
+      by-answer zero e = rw (run-goes j m e, run-goes (suc j) m e) (run-onward j 0 m)
+      by-answer (suc n) e = rw (run-refused j n m e, run-refused (suc j) n m e) stays

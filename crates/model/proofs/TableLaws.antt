@@ -58,6 +58,20 @@ module _ (P : Opcode → Type 0) (n : ℕ) where
       (on-entry EAP _ (e .eap) (on-entry SPP _ (e .spp) (on-entry TRA _ (e .tra) (on-entry TZE _ (e .tze) (on-entry TMI _ (e .tmi)
       (on-entry CALL _ (e .call) (on-entry RETURN _ (e .return) (on-entry LDBR _ (e .ldbr) (on-entry HLT _ (e .hlt) (on-entry RCU _ (e .rcu) no-entry)))))))))))))))))))
 
+-- and it has the number that decodes to it
+entry-has-number : (n : ℕ) (os : List Opcode) → If-there (λ o. n ≡ o .number) (entry n os)
+unfolding entry
+entry-has-number n [] = tt
+entry-has-number n (o ∷ os) = by-test (eqb n (o .number)) refl (entry-has-number n os)
+  where
+    by-test : (b : Bool) → eqb n (o .number) ≡ b → If-there (λ x. n ≡ x .number) (entry n os) → If-there (λ x. n ≡ x .number) (cond b (some o) (entry n os))
+    by-test true e h = eqb-true n (o .number) e
+    by-test false e h = h
+
+pub decoded-has-number : (n : ℕ) → If-there (λ o. n ≡ o .number) (decoded n)
+unfolding decoded
+decoded-has-number n = entry-has-number n opcodes
+
 -- OF EVERY NUMBER: one that the table has, or one that it has not
 abbrev pub Outside : (number : ℕ) → Type 0
 Outside n = Each (λ o. n ≡ o .number → ⊥)

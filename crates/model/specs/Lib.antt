@@ -27,6 +27,7 @@ pub mod Brackets
 pub mod Bracketing
 pub mod Old
 pub mod Renewed
+pub mod Doors
 pub mod Lent
 pub mod Notation
 pub mod Cases

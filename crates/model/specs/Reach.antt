@@ -1,8 +1,9 @@
 -- 01, 'Words and registers': the descriptor words, and the words that some ring at or above n can observe or write. Assumes nothing: these are definitions.
+use mathlib.Core.Path.{_≡_}
 use mathlib.Core.Bool.{Bool, false, _&&_, _||_}
-use Prim.Native.Nat.{ℕ, zero, suc, _+_}
+use Prim.Native.Nat.{ℕ, zero, suc, _+_, _<_}
 use lib.Dec.{ltb, leb, eqb}
-use lib.ListN.{length}
+use lib.ListN.{length, getD}
 use Rattle.model.specs.Words.{Descriptor}
 use Rattle.model.specs.Registers.{Machine}
 use Rattle.model.specs.Questions.{segment-questions}
@@ -12,6 +13,13 @@ use Rattle.model.specs.Program.{descriptor-of}
 unfoldable pub is-descriptor-word : Machine → (address : ℕ) → Bool
 is-descriptor-word m x =
     let b = m .registers .dbr in ltb x (length (m .memory)) && (leb (b .address) x && ltb x (b .address + b .length))
+
+-- two machines with one descriptor segment: equal DBRs, memories of one length, and equal descriptor words
+pub record Same-descriptors (m k : Machine) : Type 0 where
+  pub same-dbr : m .registers .dbr ≡ k .registers .dbr
+  pub same-length : length (m .memory) ≡ length (k .memory)
+  pub same-descriptor-words : (s : ℕ) → s < m .registers .dbr .length →
+      getD (m .memory) (m .registers .dbr .address + s) 0 ≡ getD (k .memory) (m .registers .dbr .address + s) 0
 
 -- a descriptor covers the LENGTH words from its own ADDRESS
 unfoldable pub covers : Descriptor → (address : ℕ) → Bool

@@ -14,6 +14,7 @@ use Rattle.model.specs.Listing.{ascii, check-line}
 use Rattle.model.specs.Notation.{pointer, flag, segment, by-ipr, by-pr, indirect-by-pr, indirect-word, WD-records, image-with, image-of}
 use Rattle.model.specs.Brackets.{Row, set-brackets}
 use Rattle.model.specs.Old.{Way, from-old, to-old, convert-words}
+use Rattle.model.specs.Doors.{doors-listing, doors-text}
 use Rattle.model.specs.Write.{bytes, stored-ST, ST-record}
 use Rattle.model.specs.Cases.{step-faults, ipr-becomes, pr-becomes, a-becomes, word-becomes, step-counts, run-lists, delivery-lists, image-prints, image-converts, left-by, Holds, about-to-do, about-to, through-pointer, case-12-registers, case-12, pointers-up, through-pointers}
 
@@ -85,6 +86,10 @@ old-segment f = 5 + 3 * 2 ^ 24 + f * 2 ^ 40
 
 abbrev words-answer-with : Way → List ℕ → (number index : ℕ) → Type 0
 words-answer-with y ws n k = convert-words y ws .answer ≡ record { number = n; index = k }
+
+-- a machine's list of doors
+abbrev doors-are : Delivery → Machine → String → Type 0
+doors-are v m s = doors-listing v m ≡ ascii s
 
 pub record Readings : Type 0 where
   -- IMAGES are judged record by record: a bad record's number comes before anything that a later record would get
@@ -210,5 +215,10 @@ pub record Readings : Type 0 where
   -- the first that fails decides, and nothing is written then
   pub first-failing-decides : words-answer-with from-old (0 ∷ old-segment 16 ∷ 0 ∷ old-segment 32 ∷ []) 56 1
   pub failing-segment-stays : convert-words from-old (0 ∷ old-segment 16 ∷ []) .words ≡ 0 ∷ old-segment 16 ∷ []
+  -- THE DOORS (02, L10): R3 above R2, E on and a gate that the segment has; then, with the switch on, where a fault leads
+  pub gate-is-a-door : doors-are no-delivery case-12 "door 5 0 2 5 1\ndoors 1\n"
+  pub gates-past-the-end-are-no-door : doors-are (delivering 1) (about-to CALL 4 4 1 (segment 3 4 1 2 5 "E V" 9)) "door 1 3 3 5 2\nfaults 1 3\ndoors 1\n"
+  pub gate-without-an-extension-is-no-door : doors-are no-delivery (about-to CALL 4 4 1 (segment 3 4 2 5 5 "E V" 2)) "doors 0\n"
+  pub refused-image-has-no-doors : doors-text [] ≡ ascii "refused 42\n"
   -- WORD NUMBERS go round from 65,535 to 0
   pub offset-goes-round : Holds (pr-becomes (about-to-do (by-pr EAP 1 + 3) 4 (pointer 4 1 65535) 0 []) 5 (pointer 4 1 2))

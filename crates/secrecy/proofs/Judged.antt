@@ -8,16 +8,16 @@ use lib.Dec.{ltb, leb}
 use lib.ListN.{length, getD, List·getD-eq-default}
 use borrow.Author.Tests.{ltb-true, ltb-false}
 use Rattle.model.specs.Registers.{Registers, machine}
-use Rattle.model.specs.Reach.{is-descriptor-word, observable-through, writable-through, observable, writable}
+use Rattle.model.specs.Reach.{is-descriptor-word, Same-descriptors, observable-through, writable-through, observable, writable}
 use Rattle.model.proofs.BranchLaws.{or-left}
 use Rattle.secrecy.specs.Statement.{Agree, Judged-alike}
 use Rattle.model.proofs.ReachLaws.{some-below-same}
-use Rattle.secrecy.proofs.Table.{Same-table, is-descriptor-word-of, same-observable-through, same-writable-through}
+use Rattle.model.proofs.DescriptorLaws.{is-descriptor-word-of, same-observable-through, same-writable-through}
 
 -- a descriptor word past the end of both memories is 0 in both
-agree-same-table : (n : ℕ) (r : Registers) (m k : List ℕ) → length m ≡ length k → Agree n (machine r m) m k → Same-table (machine r m) (machine r k)
+agree-same-descriptors : (n : ℕ) (r : Registers) (m k : List ℕ) → length m ≡ length k → Agree n (machine r m) m k → Same-descriptors (machine r m) (machine r k)
 unfolding machine Agree
-agree-same-table n r m k same agree =
+agree-same-descriptors n r m k same agree =
     record { same-dbr = refl; same-length = same; same-descriptor-words = λ s h. by-test s h (ltb (r .dbr .address + s) (length m)) refl }
   where
     by-test : (s : ℕ) → s < r .dbr .length → (t : Bool) → ltb (r .dbr .address + s) (length m) ≡ t →
@@ -32,7 +32,7 @@ agree-same-table n r m k same agree =
 pub judged-alike : Judged-alike
 unfolding is-descriptor-word observable writable machine
 judged-alike n r m k same agree x =
-    let table = agree-same-table n r m k same agree in
+    let table = agree-same-descriptors n r m k same agree in
     let b = r .dbr .length in (
       ap (λ l. ltb x l && (leb (r .dbr .address) x && ltb x (r .dbr .address + b))) same,
       some-below-same (observable-through n (machine r m) x) (observable-through n (machine r k) x) (same-observable-through table n x) b,

@@ -1,5 +1,4 @@
 -- The proof of demand 3, from one law over programs of questions and one over two runs. Assumes nothing.
-pub mod Table
 pub mod View
 pub mod Secret
 pub mod High

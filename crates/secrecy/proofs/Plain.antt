@@ -5,18 +5,16 @@ use mathlib.Core.List.{List}
 use Prim.Native.Nat.{ℕ, _≤_}
 use lib.Dec.{ltb, leb, eqb}
 use lib.ListN.{length}
-use borrow.Author.Tests.{ltb-false, eqb-true, not-true}
-use Rattle.model.proofs.BranchLaws.{and-same}
-use Rattle.model.proofs.QuestionLaws.{segment-known}
+use borrow.Author.Tests.{ltb-false, not-true}
 use Rattle.model.specs.Registers.{Delivery, Machine}
 use Rattle.model.specs.Program.{Outcome, execute, ticks}
 use Rattle.model.specs.Step.{step-program, step, pointer-words}
-use Rattle.model.specs.Reach.{segment-passes}
+use Rattle.model.specs.Reach.{Same-descriptors}
 use Rattle.model.specs.Deliver.{can-save, delivers, deliver, step-with, is-delivered}
 use Rattle.model.specs.Run.{traced}
+use Rattle.model.proofs.DescriptorLaws.{same-passed-test}
 use Rattle.secrecy.proofs.View.{View, Indistinct, Change, change-then, indistinct-after, Related, both-fault, both-complete}
-use Rattle.secrecy.proofs.Table.{Same-table, same-descriptor, segment-answer, same-segment-answer}
-use Rattle.secrecy.proofs.Secret.{indistinct-table, secret, same-ticks}
+use Rattle.secrecy.proofs.Secret.{indistinct-descriptors, secret, same-ticks}
 use Rattle.secrecy.proofs.High.{high-step}
 use Rattle.secrecy.proofs.Lockstep.{Alike-next, both-stop, both-go-on, Alike-ran, run-from, notes-from, stretch, same-stretch, alike-within, same-notes}
 use Rattle.secrecy.proofs.Runs.{next-of, next, note, above, leaves}
@@ -37,12 +35,9 @@ same-pointer-words {n} {v} {m} {k} i same one h =
     ∙ ap (ticks k) (ap₂ step-program (i .same-length) same)
 
 -- the save segment's descriptor is a descriptor word, so both deliver a fault or neither does
-same-delivers : (w : Delivery) {m k : Machine} → Same-table m k → delivers w m ≡ delivers w k
-unfolding delivers can-save segment-passes segment-answer
-same-delivers w {m} {k} same =
-    ap (λ b. eqb (w .switch) 1 && b)
-    (and-same (segment-passes m (w .save)) (segment-passes k (w .save)) _ _ (ap (λ c. eqb c 0) (same-segment-answer same (w .save)))
-    (λ e. ap (λ d. leb 13 (d .length) && d .write) (same-descriptor same (w .save) (segment-known _ _ _ _ (eqb-true _ _ e)))))
+same-delivers : (w : Delivery) {m k : Machine} → Same-descriptors m k → delivers w m ≡ delivers w k
+unfolding delivers can-save
+same-delivers w {m} {k} same = ap (λ b. eqb (w .switch) 1 && b) (same-passed-test same (λ d. leb 13 (d .length) && d .write) (w .save))
 
 -- two machines of two runs that began with memories m and k
 pub record Twin (n : ℕ) (v : View) (m k : List ℕ) (x y : Machine) : Type 0 where
@@ -55,7 +50,7 @@ module _ (w : Delivery) (n : ℕ) (v : View) (m k : List ℕ) (one : 1 ≤ n) wh
   twin-next : (x y : Machine) → Twin n v m k x y → {p q : Outcome} → Related v x y p q → is-delivered w x p ≡ false →
       Alike-next (Twin n v m k) (next-of (deliver w x p)) (next-of (deliver w y q))
   unfolding next-of deliver is-delivered
-  twin-next x y a (both-fault c t) e = rw (e, sym (same-delivers w (indistinct-table (a .indistinct))) ∙ e) (both-stop _)
+  twin-next x y a (both-fault c t) e = rw (e, sym (same-delivers w (indistinct-descriptors (a .indistinct))) ∙ e) (both-stop _)
   twin-next x y a (both-complete c) e =
       both-go-on record {
         same-registers = c .same-registers;
@@ -85,7 +80,7 @@ module _ (w : Delivery) (n : ℕ) (v : View) (m k : List ℕ) (one : 1 ≤ n) wh
   twin-leaves x y a e = by-steps (twin-steps a e)
     where
       by-steps : {p q : Outcome} → Related v x y p q → is-delivered w x p ≡ is-delivered w y q
-      by-steps (both-fault c t) = unfold is-delivered in same-delivers w (indistinct-table (a .indistinct))
+      by-steps (both-fault c t) = unfold is-delivered in same-delivers w (indistinct-descriptors (a .indistinct))
       by-steps (both-complete c) = unfold is-delivered in refl
 
   twin-above : (x y : Machine) → Twin n v m k x y → above n x ≡ above n y

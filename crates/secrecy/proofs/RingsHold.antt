@@ -18,10 +18,10 @@ use Rattle.model.proofs.BranchLaws.{and-left, and-right, or-left, or-right}
 use Rattle.model.proofs.QuestionLaws.{ask-yes, segment-known}
 use Rattle.secrecy.specs.Statement.{Agree, Descriptors-unwritable, Alike, Rings-hold, Listings-alike}
 use Rattle.model.proofs.ReachLaws.{some-below-has}
-use Rattle.secrecy.proofs.Table.{is-descriptor-word-of}
 use Rattle.secrecy.proofs.View.{View, Views, no-change}
 use Rattle.secrecy.proofs.Lockstep.{Alike-ran, run-from, stretch, inside-before}
 use Rattle.model.proofs.RunLaws.{run-refused, trace-refused}
+use Rattle.model.proofs.DescriptorLaws.{is-descriptor-word-of}
 use Rattle.secrecy.proofs.Runs.{next, reply-of, ran-of, above, leaves, run-goes-ahead, after-goes-ahead, trace-goes-ahead, stretch-goes-ahead, after-refused, stretch-refused}
 use Rattle.secrecy.proofs.Plain.{Twin, twin-count, twins-stretch, twins-run, twins-trace}
 

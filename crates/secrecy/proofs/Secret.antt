@@ -10,11 +10,11 @@ use Rattle.model.specs.Words.{Descriptor, Pointer}
 use Rattle.model.specs.Registers.{Dbr, Machine, machine}
 use Rattle.model.specs.Questions.{Question}
 use Rattle.model.specs.Program.{Program, fail, finish, halt, look, read, tick, write, descriptor-of, absolute-address, word-at, execute, ticks}
-use Rattle.model.specs.Reach.{segment-passes, observable-through, writable-through}
+use Rattle.model.specs.Reach.{Same-descriptors, segment-passes, observable-through, writable-through}
 use Rattle.model.proofs.BranchLaws.{and-both}
 use Rattle.model.proofs.QuestionLaws.{use-passes-segment}
 use Rattle.model.proofs.ProgramLaws.{use-passes, answer-passes, address-within-memory}
-use Rattle.secrecy.proofs.Table.{Same-table, use-passes-known, use-passes-covers, same-descriptor, same-use-answer, same-absolute-address}
+use Rattle.model.proofs.DescriptorLaws.{use-passes-known, use-passes-covers, same-descriptor, same-use-answer, same-absolute-address}
 use Rattle.secrecy.proofs.View.{View, Agrees, Indistinct, no-change, set-changes, Related, both-fault, both-complete, or-fault-related, unless-fault-same}
 
 -- PROGRAMS THAT ASK FROM RING n UP: a passed question lets a ring from n up read, or write, that segment; DBR b is kept, and the run goes on
@@ -34,8 +34,8 @@ High n b (tick p) = High n b p
 High n b (write q t w r) = May-write n q × (b ≡ r .dbr)
 
 module _ {n : ℕ} {v : View} {m k : Machine} (i : Indistinct n v m k) where
-  pub indistinct-table : Same-table m k
-  indistinct-table =
+  pub indistinct-descriptors : Same-descriptors m k
+  indistinct-descriptors =
       record {
         same-dbr = i .same-dbr;
         same-length = i .same-length;
@@ -43,7 +43,7 @@ module _ {n : ℕ} {v : View} {m k : Machine} (i : Indistinct n v m k) where
       }
 
   pub same-descriptor-used : (t : Pointer) → use-passes m t → descriptor-of m (t .segment) ≡ descriptor-of k (t .segment)
-  same-descriptor-used t e = same-descriptor indistinct-table (t .segment) (use-passes-known m t e)
+  same-descriptor-used t e = same-descriptor indistinct-descriptors (t .segment) (use-passes-known m t e)
 
   pub word-observable : (t : Pointer) → use-passes m t → (descriptor-of m (t .segment) .read || descriptor-of m (t .segment) .execute) ≡ true →
       n ≤ descriptor-of m (t .segment) .r2 → v .observable (absolute-address m t) ≡ true
@@ -63,7 +63,7 @@ module _ {n : ℕ} {v : View} {m k : Machine} (i : Indistinct n v m k) where
       n ≤ descriptor-of m (t .segment) .r2 → word-at m t ≡ word-at k t
   unfolding word-at
   same-word t e f h =
-      i .agrees (absolute-address m t) (word-observable t e f h) ∙ ap (λ x. getD (k .memory) x 0) (same-absolute-address indistinct-table t e)
+      i .agrees (absolute-address m t) (word-observable t e f h) ∙ ap (λ x. getD (k .memory) x 0) (same-absolute-address indistinct-descriptors t e)
 
   pub set-agrees : (x w : ℕ) → x < length (m .memory) → Agrees v (set (m .memory) x w) (set (k .memory) x w)
   set-agrees x w h z e = by-test (eqb z x) refl
@@ -89,12 +89,12 @@ module _ {n : ℕ} {v : View} {m k : Machine} (i : Indistinct n v m k) where
       }
   secret (halt r) h = absurd h
   secret (look q t f) h =
-      or-fault-related t (same-use-answer indistinct-table t q)
+      or-fault-related t (same-use-answer indistinct-descriptors t q)
       (λ e.
       let z = answer-passes m t q e in
       rw (← (same-descriptor-used t (z .0))) (secret (f (descriptor-of m (t .segment))) (h _ (z .1))))
   secret (read q t f) h =
-      or-fault-related t (same-use-answer indistinct-table t q)
+      or-fault-related t (same-use-answer indistinct-descriptors t q)
       (λ e.
       let z = answer-passes m t q e in
       let y = h .0 (descriptor-of m (t .segment)) (z .1) in
@@ -102,12 +102,12 @@ module _ {n : ℕ} {v : View} {m k : Machine} (i : Indistinct n v m k) where
       (secret (f (descriptor-of m (t .segment)) (word-at m t)) (h .1 _ _ (z .1))))
   secret (tick p) h = secret p h
   secret (write q t w r) h =
-      or-fault-related t (same-use-answer indistinct-table t q)
+      or-fault-related t (same-use-answer indistinct-descriptors t q)
       (λ e.
       let z = answer-passes m t q e in
       let y = h .0 (descriptor-of m (t .segment)) (z .1) in
       let o = word-writable t (z .0) (y .0) (y .1) in
-      rw (← (same-absolute-address indistinct-table t (z .0)))
+      rw (← (same-absolute-address indistinct-descriptors t (z .0)))
       (both-complete record {
         same-registers = refl;
         dbr-kept = h .1;
@@ -123,12 +123,12 @@ module _ {n : ℕ} {v : View} {m k : Machine} (i : Indistinct n v m k) where
   same-ticks (finish r) h = refl
   same-ticks (halt r) h = refl
   same-ticks (look q t f) h =
-      unless-fault-same (same-use-answer indistinct-table t q)
+      unless-fault-same (same-use-answer indistinct-descriptors t q)
       (λ e.
       let z = answer-passes m t q e in
       rw (← (same-descriptor-used t (z .0))) (same-ticks (f (descriptor-of m (t .segment))) (h _ (z .1))))
   same-ticks (read q t f) h =
-      unless-fault-same (same-use-answer indistinct-table t q)
+      unless-fault-same (same-use-answer indistinct-descriptors t q)
       (λ e.
       let z = answer-passes m t q e in
       let y = h .0 (descriptor-of m (t .segment)) (z .1) in

@@ -8,8 +8,8 @@ use lib.Seq.{getD-set-other}
 use Rattle.model.specs.Words.{Pointer}
 use Rattle.model.specs.Registers.{Dbr, Machine}
 use Rattle.model.specs.Program.{Outcome, faults, completes, or-fault, unless-fault}
-use Rattle.model.specs.Reach.{observable-through, writable-through}
-use Rattle.secrecy.proofs.Table.{Same-table, same-observable-through, same-writable-through}
+use Rattle.model.specs.Reach.{Same-descriptors, observable-through, writable-through}
+use Rattle.model.proofs.DescriptorLaws.{same-observable-through, same-writable-through}
 
 -- WORDS ARE JUDGED ONCE, at the start: those on which two memories agree, and those that may change
 pub record View : Type 0 where
@@ -23,8 +23,8 @@ pub record Views (n : ℕ) (v : View) (m : Machine) : Type 0 where
   pub has-observable : (x s : ℕ) → observable-through n m x s ≡ true → v .observable x ≡ true
   pub has-writable : (x s : ℕ) → writable-through n m x s ≡ true → v .writable x ≡ true
 
-pub same-table-same-view : {n : ℕ} {v : View} {m k : Machine} → Same-table m k → Views n v m → Views n v k
-same-table-same-view {n} {v} {m} {k} same views =
+pub same-descriptors-same-view : {n : ℕ} {v : View} {m k : Machine} → Same-descriptors m k → Views n v m → Views n v k
+same-descriptors-same-view {n} {v} {m} {k} same views =
     record {
       descriptors-observable =
           subst (λ (b : Dbr). (s : ℕ) → s < b .length → v .observable (b .address + s) ≡ true) (same .same-dbr) (views .descriptors-observable);
@@ -74,7 +74,7 @@ pub indistinct-after : {n : ℕ} {v : View} {m k x y : Machine} → Indistinct n
 indistinct-after i c =
     record {
       views =
-          same-table-same-view
+          same-descriptors-same-view
           (record {
             same-dbr = c .dbr-kept;
             same-length = c .changed-m .length-kept;

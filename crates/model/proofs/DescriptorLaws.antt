@@ -6,21 +6,14 @@ use native.Mathlib.Omega.{arith}
 use lib.Dec.{ltb, leb, eqb}
 use lib.ListN.{length, getD}
 use borrow.Author.Tests.{ltb-true, eqb-true, le-leb, lt-ltb}
-use Rattle.model.specs.Words.{descriptor-in, Pointer}
+use Rattle.model.specs.Words.{Descriptor, descriptor-in, Pointer}
 use Rattle.model.specs.Registers.{Dbr, Machine}
 use Rattle.model.specs.Questions.{ask, Question, segment-questions, use-questions}
 use Rattle.model.specs.Program.{descriptor-of, absolute-address, use-answer}
-use Rattle.model.specs.Reach.{is-descriptor-word, covers, segment-passes, observable-through, writable-through}
+use Rattle.model.specs.Reach.{is-descriptor-word, Same-descriptors, covers, segment-passes, observable-through, writable-through}
 use Rattle.model.proofs.BranchLaws.{and-both, and-same}
 use Rattle.model.proofs.QuestionLaws.{then-ask-same, segment-known, use-passes-segment, word-within-segment}
 use Rattle.model.proofs.ProgramLaws.{use-passes}
-
--- equal DBRs, memories of one length, and equal descriptor words
-pub record Same-table (m k : Machine) : Type 0 where
-  pub same-dbr : m .registers .dbr ≡ k .registers .dbr
-  pub same-length : length (m .memory) ≡ length (k .memory)
-  pub same-descriptor-words : (s : ℕ) → s < m .registers .dbr .length →
-      getD (m .memory) (m .registers .dbr .address + s) 0 ≡ getD (k .memory) (m .registers .dbr .address + s) 0
 
 -- 11 to 14 of a segment
 unfoldable pub segment-answer : Machine → (segment : ℕ) → ℕ
@@ -46,7 +39,7 @@ is-descriptor-word-of m s h i =
     and-both (ltb (b .address + s) (length (m .memory))) _ (omega (arith, lt-ltb))
     (and-both (leb (b .address) (b .address + s)) (ltb (b .address + s) (b .address + b .length)) (omega (arith, le-leb)) (omega (arith, lt-ltb)))
 
-module _ {m k : Machine} (same : Same-table m k) where
+module _ {m k : Machine} (same : Same-descriptors m k) where
   pub same-descriptor : (s : ℕ) → s < m .registers .dbr .length → descriptor-of m s ≡ descriptor-of k s
   unfolding descriptor-of
   same-descriptor s h = ap descriptor-in (same .same-descriptor-words s h ∙ ap (λ (b : Dbr). getD (k .memory) (b .address + s) 0) (same .same-dbr))
@@ -75,15 +68,19 @@ module _ {m k : Machine} (same : Same-table m k) where
   unfolding absolute-address
   same-absolute-address t e = ap (λ d. d .address + t .word) (same-descriptor (t .segment) (use-passes-known m t e))
 
-  -- so the same words are observable and writable from ring n
-  pub same-observable-through : (n x s : ℕ) → observable-through n m x s ≡ observable-through n k x s
-  unfolding observable-through segment-passes segment-answer
-  same-observable-through n x s =
+  -- so a test of a descriptor that passes has the same answer
+  pub same-passed-test : (f : Descriptor → Bool) (s : ℕ) →
+      (segment-passes m s && f (descriptor-of m s)) ≡ (segment-passes k s && f (descriptor-of k s))
+  unfolding segment-passes segment-answer
+  same-passed-test f s =
       and-same (segment-passes m s) (segment-passes k s) _ _ (ap (λ c. eqb c 0) (same-segment-answer s))
-      (λ e. ap (λ d. covers d x && ((d .read || d .execute) && leb n (d .r2))) (same-descriptor s (segment-known _ _ _ _ (eqb-true _ _ e))))
+      (λ e. ap f (same-descriptor s (segment-known _ _ _ _ (eqb-true _ _ e))))
+
+  -- and the same words are observable and writable from ring n
+  pub same-observable-through : (n x s : ℕ) → observable-through n m x s ≡ observable-through n k x s
+  unfolding observable-through
+  same-observable-through n x s = same-passed-test (λ d. covers d x && ((d .read || d .execute) && leb n (d .r2))) s
 
   pub same-writable-through : (n x s : ℕ) → writable-through n m x s ≡ writable-through n k x s
-  unfolding writable-through segment-passes segment-answer
-  same-writable-through n x s =
-      and-same (segment-passes m s) (segment-passes k s) _ _ (ap (λ c. eqb c 0) (same-segment-answer s))
-      (λ e. ap (λ d. covers d x && (d .write && leb n (d .r1))) (same-descriptor s (segment-known _ _ _ _ (eqb-true _ _ e))))
+  unfolding writable-through
+  same-writable-through n x s = same-passed-test (λ d. covers d x && (d .write && leb n (d .r1))) s

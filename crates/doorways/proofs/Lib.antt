@@ -1,0 +1,4 @@
+-- The laws that the proofs of this crate rest on. Assumes nothing.
+pub mod DoorLaws
+pub mod LineLaws
+pub mod ListLaws

@@ -1,0 +1,1 @@
+// Gates holds statements (specs/) and their proofs (proofs/), and no code.
