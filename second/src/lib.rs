@@ -1,15 +1,16 @@
-//! A second implementation of the ring processor, written from document 01 and requests L1, L2, L4, L5, L6, L8 and L9 of
-//! document 02 alone, to be compared with the first.
+//! A second implementation of the ring processor, written from document 01 and requests L1, L2, L4, L5, L6, L8, L9 and
+//! L10 of document 02 alone, to be compared with the first.
 //!
 //! It reads like the paper: `words` has the descriptor, the pointer word and the instruction; `machine` the registers,
 //! the questions, a step, a run and the check of CALL; `frame` what a delivered fault leaves; `image` the records;
 //! `listing` the text; `bench` the call of the bench's firmware; `convert` the program for stored images; `may_call` the
 //! program that asks the check; `brackets` the table for who may do what and its program; `old` the descriptors of the old
-//! benches and the program that converts them. `repeats` and `states` have directed images, `pointers`, `delivery` and
-//! `stacks` directed machines with what each of them asks for, `calls` pointers for the check with its answers, `tables`
-//! tables of brackets with what each of them leaves, `old_cases` descriptors with what becomes of them, and `opcodes` the
-//! numbers that they use; they are for the tests and the comparison. A comment that starts with a number is the question
-//! of that number.
+//! benches and the program that converts them; `doors` the gates that lead down, the program that lists them and the claim
+//! that nothing else does. `repeats` and `states` have directed images, `pointers`, `delivery` and `stacks` directed
+//! machines with what each of them asks for, `calls` pointers for the check with its answers, `tables` tables of brackets
+//! with what each of them leaves, `old_cases` descriptors with what becomes of them, `door_cases` images with their doors
+//! and steps with what the claim says of them, and `opcodes` the numbers that they use; they are for the tests and the
+//! comparison. A comment that starts with a number is the question of that number.
 
 #![forbid(unsafe_code)]
 
@@ -18,6 +19,8 @@ pub mod brackets;
 pub mod calls;
 pub mod convert;
 pub mod delivery;
+pub mod door_cases;
+pub mod doors;
 pub mod frame;
 pub mod image;
 pub mod listing;
@@ -36,6 +39,7 @@ pub mod words;
 pub use bench::bench;
 pub use brackets::{brackets_output, set_brackets, Row};
 pub use convert::{convert, converted};
+pub use doors::doors_text;
 pub use image::{read_image, read_stored_image, Image, Rules};
 pub use listing::list;
 pub use machine::{may_call, run, step, step_and_fault, Check, Fault, Registers, Reply};

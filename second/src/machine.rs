@@ -128,7 +128,7 @@ fn pointer_is_in_range(pointer: &Pointer) -> bool {
 }
 
 /// 3, and 52 of a frame's registers: is every PR's RING ≥ IPR.RING?
-fn prs_are_at_or_above_ipr(registers: &Registers) -> bool {
+pub(crate) fn prs_are_at_or_above_ipr(registers: &Registers) -> bool {
     registers.pr.iter().all(|pr| pr.ring >= registers.ipr.ring)
 }
 
@@ -237,7 +237,7 @@ fn ask(number: u8, yes: bool, at: &Pointer) -> Result<(), Fault> {
 
 /// The descriptor of the segment of `at`: 11 to 14.
 #[inline]
-fn descriptor_of(dbr: &Dbr, memory: &[u64], at: &Pointer) -> Result<Descriptor, Fault> {
+pub(crate) fn descriptor_of(dbr: &Dbr, memory: &[u64], at: &Pointer) -> Result<Descriptor, Fault> {
     ask(11, has_descriptor(at, dbr), at)?;
     let descriptor_segment = &memory[dbr.address as usize..][..usize::from(dbr.length)];
     let segment = Descriptor::from_word(descriptor_segment[usize::from(at.segno)]);
@@ -262,7 +262,7 @@ fn use_segment(dbr: &Dbr, memory: &[u64], at: &Pointer) -> Result<Descriptor, Fa
 }
 
 /// The words of a segment whose descriptor has passed.
-fn words_of<'m>(segment: &Descriptor, memory: &'m [u64]) -> &'m [u64] {
+pub(crate) fn words_of<'m>(segment: &Descriptor, memory: &'m [u64]) -> &'m [u64] {
     &memory[segment.address as usize..][..usize::from(segment.length)]
 }
 
@@ -542,7 +542,7 @@ pub fn may_call(registers: &Registers, memory: &[u64], pointer: &Pointer) -> Che
 // ---- Faults that are delivered.
 
 /// The save segment, if a frame can be written there: 11 to 14, then LENGTH ≥ 13 and W on. No ring is asked.
-fn save_segment(registers: &Registers, memory: &[u64]) -> Option<Descriptor> {
+pub(crate) fn save_segment(registers: &Registers, memory: &[u64]) -> Option<Descriptor> {
     let first = Pointer { segno: registers.save_segment, ..Pointer::default() };
     let segment = descriptor_of(&registers.dbr, memory, &first).ok()?;
     (usize::from(segment.length) >= frame::WORDS && segment.w).then_some(segment)

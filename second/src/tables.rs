@@ -691,7 +691,7 @@ fn all_segments(cases: &mut Cases) {
 
 /// A and all pointers have bytes of their own; IPR in ring 4, PR0 in ring `pr`, the others at 4 or above; save segment
 /// 4,095, handler segment 258.
-fn st(dbr: Dbr, pr: u8, switch: u8) -> Vec<u8> {
+pub(crate) fn st(dbr: Dbr, pr: u8, switch: u8) -> Vec<u8> {
     let mut record = b"ST\x11\x22\x33\x44\x55\x66\x77\x88".to_vec();
     record.extend(dbr.address.to_be_bytes());
     record.extend(dbr.length.to_be_bytes());

@@ -5,10 +5,11 @@ use crate::images::shuffle;
 use crate::library::{Answer, CheckAnswer, Lent};
 use crate::random::Random;
 use crate::reach::{Place, Reach, Unsaved};
+use second::doors::{self, State};
 use second::old_cases::Segment;
 use second::opcodes::CALL;
 use second::tables::Table;
-use second::{Check, Descriptor, Direction, Fault, Instruction, OldAnswer, Pointer, Registers, Reply, Row};
+use second::{Check, Descriptor, Direction, Fault, Image, Instruction, OldAnswer, Pointer, Registers, Reply, Row};
 
 /// What a call is handed.
 #[derive(Clone, Debug, Default, PartialEq, Eq)]
@@ -61,6 +62,8 @@ const POINTERS: usize = 5;
 const MORE_POINTERS: usize = 300;
 /// With more words than this, memory takes long to compare: two pointers are enough.
 const MANY_WORDS: usize = 1 << 20;
+/// How many segments of an image's start are called.
+const SEGMENTS: u16 = 4;
 
 impl Comparer {
     pub fn new() -> Comparer {
@@ -89,8 +92,9 @@ impl Comparer {
         Comparer { pointer_count: MORE_POINTERS, is_always_same_draw: true, ..Comparer::new() }
     }
 
-    /// A run with the budget, and then the same steps one by one: reply, registers, every word of memory. Before the run
-    /// and after the steps, some pointers through the check of CALL; before each CALL, its TPR.
+    /// A run with the budget, and then the same steps one by one: reply, registers, every word of memory; of each step that
+    /// the library completes, what it did to the ring. Before the run and after the steps, some pointers through the check
+    /// of CALL; before each CALL, its TPR.
     pub fn machine(&mut self, machine: &Machine) -> Result<Outcome, Difference> {
         self.machines += 1;
 
@@ -99,6 +103,10 @@ impl Comparer {
         self.some_pointers(&registers)?;
         let run_reply = second::run(&mut registers, &mut self.mine, machine.budget);
         let answer = self.lent.run(machine.budget);
+        let is_refused = matches!(run_reply, Reply::Refused { .. });
+        if !is_refused {
+            self.ring_after_run(machine, answer)?;
+        }
         self.agree("kuzhlemor_run", run_reply, answer, &registers)?;
         let run_registers = registers;
         std::mem::swap(&mut self.mine, &mut self.after_run);
@@ -116,10 +124,16 @@ impl Comparer {
             let opcode = opcode_at_ipr(&registers, &self.mine);
             let call = if opcode == Some(CALL) { self.check_of_call(&registers)? } else { None };
             let before = registers;
-            let (step_reply, fault) = second::step_and_fault(&mut registers, &mut self.mine);
             let answer = self.lent.step();
+            // Registers and memory are still as they were before it.
+            if !is_refused && answer.count == 1 {
+                let before = State { registers: &before, memory: &self.mine };
+                let change = self.lent.change_since(before).map_err(|text| at_step(count, text))?;
+                self.reach.change(opcode, before.registers.ipr.ring, change);
+            }
+            let (step_reply, fault) = second::step_and_fault(&mut registers, &mut self.mine);
             self.agree("kuzhlemor_step", step_reply, answer, &registers)
-                .map_err(|Difference(text)| Difference(format!("step {}: {text}", count + 1)))?;
+                .map_err(|Difference(text)| at_step(count, text))?;
             if let Some((tpr, check)) = call {
                 answers_by_check(tpr, check, fault, registers.ipr)?;
                 self.reach.call(&before, tpr, check);
@@ -154,10 +168,22 @@ impl Comparer {
         }
         self.some_pointers(&registers)?;
         self.reach.run(run_reply);
-        if !matches!(run_reply, Reply::Refused { .. }) {
+        if !is_refused {
             self.reach.changes(machine, &registers, &self.mine);
         }
         Ok(Outcome { run: run_reply, last_step })
+    }
+
+    /// What the library's run of a machine, which isn't refused, did to the ring, if it was one step; after any run, no
+    /// PR's ring is below IPR's.
+    fn ring_after_run(&self, machine: &Machine, answer: Answer) -> Result<(), Difference> {
+        let before = State { registers: &machine.registers, memory: &machine.memory };
+        let holds = match answer.count {
+            1 => self.lent.change_since(before).map(|_| ()),
+            _ if doors::no_pr_is_low(&self.lent.registers()) => Ok(()),
+            _ => Err(format!("a PR's ring is below IPR's: {:?}", self.lent.registers())),
+        };
+        holds.map_err(|text| Difference(format!("after kuzhlemor_run: {text}")))
     }
 
     /// Both get this machine.
@@ -331,10 +357,16 @@ impl Comparer {
         text
     }
 
-    /// The bench's call, and the conversion of the same bytes. Answers what the bench's call does.
+    /// The bench's call, the doors of the image's start, and the conversion of the same bytes. Answers what the bench's call
+    /// does.
     pub fn image(&mut self, image: &[u8], text_length: usize, filler: u8) -> Result<i64, Difference> {
         self.images += 1;
         let answer = self.bench(image, text_length, filler)?;
+        if answer >= 0 || answer == -45 {
+            if let Ok(image) = second::read_image(image) {
+                self.doors(&image, filler)?;
+            }
+        }
         self.conversion(image, filler)?;
         Ok(answer)
     }
@@ -364,6 +396,27 @@ impl Comparer {
             text += &format!("\n  second:\n{}\n  library:\n{}", part(mine), part(theirs));
         }
         Err(Difference(text))
+    }
+
+    /// Calls from other segments to some segments of an image's start: by its doors they come down, and not otherwise.
+    fn doors(&mut self, Image { registers, memory, .. }: &Image, filler: u8) -> Result<(), Difference> {
+        self.reach.doors(registers, &doors::doors(registers, memory));
+        self.lend(registers, memory);
+        let length = registers.dbr.length;
+        for segno in (0..length.min(SEGMENTS)).map(|place| (u16::from(filler) + place) % length) {
+            for doors::Call { registers, pointer, says } in doors::calls(registers, memory, segno) {
+                self.lent.set_registers(&registers);
+                let check = self.may_call(&registers, pointer)?;
+                if !says.is(check) {
+                    let door = doors::door(&registers, memory, segno);
+                    let text =
+                        format!("{door:?}: a call of {pointer:?} from {:?}: {check:?}, not {says:?}", registers.ipr);
+                    return Err(Difference(text));
+                }
+                self.reach.called(says, check);
+            }
+        }
+        Ok(())
     }
 
     /// The conversion, in place: the answer, every byte of the image and the bytes around it, refused or not. What comes
@@ -461,6 +514,10 @@ impl Comparer {
             shown(theirs)
         )))
     }
+}
+
+fn at_step(before: u32, text: String) -> Difference {
+    Difference(format!("step {}: {text}", before + 1))
 }
 
 /// A CALL has met this fault, delivered or not, or has moved IPR here: is that its check?

@@ -4,6 +4,8 @@
 use crate::compare::{Comparer, Difference, Machine, Outcome};
 use crate::describe;
 use crate::random::Random;
+use second::door_cases::{self, Step};
+use second::doors::Change;
 use second::image::ME_LIMIT;
 use second::opcodes::*;
 use second::{
@@ -656,6 +658,28 @@ fn check(comparer: &mut Comparer, case: &calls::Case) -> Result<(), Box<Failure>
         }
         Err(difference) => Err(differs(&call, difference)),
     }
+}
+
+/// The library's directed steps for the claim that only gates lead down: by a call through a door both come to where it
+/// leads, and what is against the claim neither leaves. Answers how many they are.
+pub fn ring_steps(comparer: &mut Comparer) -> Result<usize, Box<Failure>> {
+    let steps = door_cases::steps();
+    let count = steps.len();
+    for Step { name, before, after, verdict } in steps {
+        let differs = |difference| Box::new((name.clone(), machine(before.clone()), difference));
+        comparer.machine(&machine(before.clone())).map_err(differs)?;
+        let Image { mut registers, mut memory, .. } = before.clone();
+        second::step(&mut registers, &mut memory);
+        let is_right = match verdict {
+            Ok(Change::Called { .. }) => registers.ipr == after.registers.ipr,
+            Ok(_) => true,
+            Err(_) => (registers, memory) != (after.registers, after.memory),
+        };
+        if !is_right {
+            return Err(differs(Difference(format!("both leave {registers:?}; of this or another: {verdict:?}"))));
+        }
+    }
+    Ok(count)
 }
 
 fn machine(Image { registers, memory, budget }: Image) -> Machine {

@@ -1,6 +1,7 @@
 //! The C library, called as its header says.
 
 use crate::random::Random;
+use second::doors::{self, Change, State};
 use second::{Check, Dbr, Direction, Fault, OldAnswer, Pointer, Registers, Reply, Row};
 
 #[repr(C)]
@@ -213,6 +214,11 @@ impl Lent {
     /// Lends these.
     pub fn set(&mut self, registers: &Registers, memory: &[u64]) {
         self.set_memory(memory);
+        self.set_registers(registers);
+    }
+
+    /// Lends these, for the memory there is.
+    pub fn set_registers(&mut self, registers: &Registers) {
         let pointer = |pointer: Pointer| CPointer {
             ring: pointer.ring,
             padding: 0,
@@ -274,12 +280,34 @@ impl Lent {
         self.words[..GUARD] == [GUARD_WORD; GUARD] && self.words[end..] == [GUARD_WORD; GUARD]
     }
 
+    /// What the step that has led from there to here did to the ring; or, in words, which claim it breaks.
+    pub fn change_since(&self, before: State) -> Result<Change, String> {
+        let registers = self.registers();
+        let after = State { registers: &registers, memory: self.memory() };
+        doors::change(before, after).map_err(|breach| {
+            let ipr = before.registers.ipr;
+            format!("only gates lead down: {breach:?}\n  from {ipr:?}\n  registers after it: {registers:?}")
+        })
+    }
+
     pub fn step(&mut self) -> Answer {
         self.draw_padding();
         let words = self.words.len() - 2 * GUARD;
         // SAFETY: one record and `words` words, aligned, lent alone for the call.
         let reply = unsafe { kuzhlemor_step(&mut self.record, self.words.as_mut_ptr().add(GUARD), words) };
         Answer::from_c(reply)
+    }
+
+    /// A step of a machine that isn't refused, and what it did to the ring if it was completed. `before` gets the memory as
+    /// it was.
+    pub fn step_and_change(&mut self, before: &mut Vec<u64>) -> Result<(Answer, Option<Change>), String> {
+        let registers = self.registers();
+        before.clear();
+        before.extend_from_slice(self.memory());
+        let answer = self.step();
+        let before = State { registers: &registers, memory: before };
+        let change = if answer.count == 1 { Some(self.change_since(before)?) } else { None };
+        Ok((answer, change))
     }
 
     pub fn run(&mut self, budget: u32) -> Answer {

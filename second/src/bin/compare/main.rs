@@ -134,6 +134,9 @@ fn carry_out(plan: &Plan) -> Result<(), String> {
          gives"
     ));
 
+    let count = directed::ring_steps(&mut comparer).map_err(|failure| machine_differs(plan, *failure))?;
+    clock.part(&format!("directed: {count} steps for the claim that only gates lead down, with what is said of each"));
+
     // Each part has its own numbers, so that no other part changes what it draws.
     let mut random = Random::new(plan.seed.rotate_left(24));
     let (count, rings) =
@@ -190,11 +193,12 @@ fn carry_out(plan: &Plan) -> Result<(), String> {
         secrecy.pair(&mut random, &mut generator).map_err(|leak| leaks(plan, *leak))?;
     }
     clock.part(&format!(
-        "secrecy: {} pairs of machines, {} steps, {} words hidden; {} stretches end below ring n, {} before a delivered \
-         fault, {} with a fault; {} wrote a hidden word; {} read pointer words, {} faulted at or after some; {} pairs of listings; \
-         by n from 1: {:?}",
+        "secrecy: {} pairs of machines, {} steps, {} through a door, {} words hidden; {} stretches end below ring n, {} before \
+         a delivered fault, {} with a fault; {} wrote a hidden word; {} read pointer words, {} faulted at or after some; {} pairs \
+         of listings; by n from 1: {:?}",
         secrecy.pairs,
         secrecy.steps,
+        secrecy.called,
         secrecy.hidden_words,
         secrecy.ended_below,
         secrecy.ended_before_delivery,
@@ -331,10 +335,11 @@ fn drawn_segments(plan: &Plan, comparer: &mut Comparer, clock: &mut Clock) -> Re
 /// The laptop's programs that the environment names.
 fn programs(plan: &Plan, generator: &mut Generator, clock: &mut Clock) -> Result<(), String> {
     type Compare = fn(&OsStr, &mut Random, &mut Generator) -> Result<usize, program::Failure>;
-    let programs: [(&str, &str, u32, Compare); 3] = [
+    let programs: [(&str, &str, u32, Compare); 4] = [
         ("may_call", "KUZHLEMOR_MAY_CALL", 48, program::may_call),
         ("brackets", "KUZHLEMOR_BRACKETS", 40, program::brackets),
         ("old_words", "KUZHLEMOR_OLD_WORDS", 12, program::old_words),
+        ("doors", "KUZHLEMOR_DOORS", 20, program::doors),
     ];
     for (name, variable, rotation, compare) in programs {
         let Some(path) = std::env::var_os(variable) else { continue };

@@ -1,5 +1,5 @@
-//! The laptop's programs that ask whether a call would pass, that set brackets and that convert descriptors, against what
-//! the second implementation writes.
+//! The laptop's programs that ask whether a call would pass, that set brackets, that convert descriptors and that list
+//! doors, against what the second implementation writes.
 
 use std::ffi::OsStr;
 use std::io::{self, Write};
@@ -13,12 +13,11 @@ use crate::images;
 use crate::old;
 use crate::random::Random;
 use crate::tables;
-use second::calls;
 use second::image::pointer_bytes;
 use second::old::MOST_WORDS;
 use second::old_cases::{self, segment_bytes, Segment};
 use second::tables::{cases, inputs, rows_bytes, Input};
-use second::Direction;
+use second::{calls, door_cases, Direction};
 
 /// The name of an input, its bytes, and what differs.
 pub type Failure = (String, Vec<u8>, Difference);
@@ -123,6 +122,21 @@ pub fn old_words(program: &OsStr, random: &mut Random, _: &mut Generator) -> Res
         let input = drawn_words(random);
         let written = second::old_words_output(&input);
         asked.ask(format!("drawn input {number}"), input, written.ok().as_deref())?;
+    }
+    Ok(asked.inputs)
+}
+
+/// The doors of images.
+pub fn doors(program: &OsStr, random: &mut Random, generator: &mut Generator) -> Result<usize, Failure> {
+    let mut asked = Asked::new(program);
+    for calls::Input { name, bytes, text } in door_cases::inputs() {
+        asked.ask(name, bytes, Some(text.as_bytes()))?;
+    }
+    for number in 0..DRAWN {
+        let machine = drawn_machine(random, generator);
+        let image = drawn_image(random, &machine);
+        let text = second::doors_text(&image);
+        asked.ask(format!("drawn input {number}"), image, Some(text.as_bytes()))?;
     }
     Ok(asked.inputs)
 }

@@ -3,6 +3,7 @@
 use std::collections::BTreeMap;
 
 use crate::compare::Machine;
+use second::doors::{Change, Door, Says};
 use second::image::{self, Record};
 use second::old_cases::Segment;
 use second::opcodes::RCU;
@@ -339,6 +340,108 @@ impl StackBases {
             });
             print_row(cells, missed);
         }
+    }
+}
+
+/// What completed steps did to the ring.
+#[derive(Default)]
+struct Changes {
+    /// It stayed, or rose.
+    kept: u64,
+    rose: u64,
+    /// The same of opcode 42.
+    restored: [u64; 2],
+    /// It fell, by how far: through a door, and by a delivered fault.
+    called: [u64; 7],
+    delivered: [u64; 7],
+    /// Through a door: by IPR's ring among the door's, by TPR's word, the order being that of `PARTS`; and with TPR's ring
+    /// above IPR's.
+    rings: [u64; PARTS.len()],
+    words: [u64; PARTS.len()],
+    tpr_above: u64,
+}
+
+const PARTS: [&str; 4] = ["the only", "the first", "between", "the last"];
+
+fn part<T: PartialEq>(first: T, last: T, this: T) -> usize {
+    match (this == first, this == last) {
+        (true, true) => 0,
+        (true, false) => 1,
+        (false, false) => 2,
+        (false, true) => 3,
+    }
+}
+
+impl Changes {
+    fn count(&mut self, opcode: Option<u8>, ring: u8, change: Change) {
+        match change {
+            Change::Kept | Change::Rose => {
+                let is_rise = usize::from(change == Change::Rose);
+                *[&mut self.kept, &mut self.rose][is_rise] += 1;
+                self.restored[is_rise] += u64::from(opcode == Some(RCU));
+            }
+            Change::Called { tpr, door } => {
+                self.called[usize::from(ring - door.new) - 1] += 1;
+                self.rings[part(door.from, door.to, ring)] += 1;
+                self.words[part(0, door.last, tpr.wordno)] += 1;
+                self.tpr_above += u64::from(tpr.ring > ring);
+            }
+            Change::Delivered => self.delivered[usize::from(ring) - 1] += 1,
+        }
+    }
+
+    fn print(&self, missed: &mut Vec<String>) {
+        let [kept, rose] = self.restored;
+        let others = [("stayed", self.kept), ("rose", self.rose), ("stayed by 42", kept), ("rose by 42", rose)];
+        print_row(others.into_iter().map(|(name, count)| (format!("the ring {name}"), count)), missed);
+        for (by, counts) in [("through a door", self.called), ("delivered", self.delivered)] {
+            print_row((1..8).map(|far| format!("fell by {far}, {by}")).zip(counts), missed);
+        }
+        for (what, counts) in [("ring", self.rings), ("word", self.words)] {
+            print_row(PARTS.iter().map(|part| format!("{what} of a door, {part}")).zip(counts), missed);
+        }
+        print_row([("through a door with TPR's ring above IPR's".to_string(), self.tpr_above)].into_iter(), missed);
+    }
+}
+
+/// The starts of images: what leads down, and what calls were answered.
+#[derive(Default)]
+struct Doors {
+    /// By how many doors there are: none, one, several; and with the switch off and on.
+    images: [[u64; 2]; 3],
+    passed: u64,
+    /// Behind the last gate: 15 and 27.
+    no_word: u64,
+    no_gate: u64,
+    above_r3: u64,
+    /// To a segment that is no door: a fault, or the ring stayed.
+    no_door: u64,
+}
+
+impl Doors {
+    fn called(&mut self, says: Says, check: Check) {
+        let count = match (says, check) {
+            (Says::Passes(_), _) => &mut self.passed,
+            (Says::NoGate, Check::Fault(Fault { number: 15, .. })) => &mut self.no_word,
+            (Says::NoGate, _) => &mut self.no_gate,
+            (Says::AboveR3, _) => &mut self.above_r3,
+            (Says::NotBelow(_), _) => &mut self.no_door,
+        };
+        *count += 1;
+    }
+
+    fn print(&self, missed: &mut Vec<String>) {
+        let images = ["no door", "one door", "several doors"].into_iter().zip(self.images);
+        let images =
+            images.flat_map(|(doors, [off, on])| [(doors.to_string(), off), (format!("{doors}, switch on"), on)]);
+        let calls = [
+            ("come by a door", self.passed),
+            ("behind its gates, 15", self.no_word),
+            ("behind its gates, 27", self.no_gate),
+            ("above its rings, 28", self.above_r3),
+            ("to no door", self.no_door),
+        ];
+        print_row(images.chain(calls.map(|(name, count)| (name.to_string(), count))), missed);
     }
 }
 
@@ -694,6 +797,8 @@ pub struct Reach {
     conversions: Conversions,
     checks: Checks,
     stack_bases: StackBases,
+    ring_changes: Changes,
+    doors: Doors,
     tables: Tables,
     segments: [Segments; 2],
     changed_memory: u64,
@@ -718,6 +823,8 @@ impl Reach {
             conversions: Conversions::default(),
             checks: Checks::new(),
             stack_bases: StackBases::default(),
+            ring_changes: Changes::default(),
+            doors: Doors::default(),
             tables: Tables::default(),
             segments: Direction::BOTH.map(Segments::new),
             changed_memory: 0,
@@ -811,6 +918,21 @@ impl Reach {
         }
     }
 
+    /// What a completed step from this ring did to it.
+    pub fn change(&mut self, opcode: Option<u8>, ring: u8, change: Change) {
+        self.ring_changes.count(opcode, ring, change);
+    }
+
+    /// What leads down at an image's start.
+    pub fn doors(&mut self, registers: &Registers, doors: &[Door]) {
+        self.doors.images[doors.len().min(2)][usize::from(registers.fault_switch)] += 1;
+    }
+
+    /// A call at an image's start.
+    pub fn called(&mut self, says: Says, check: Check) {
+        self.doors.called(says, check);
+    }
+
     /// What a table of brackets was answered.
     pub fn table(&mut self, table: &Table, answer: u32) {
         self.tables.answered(table, answer);
@@ -848,6 +970,10 @@ impl Reach {
         self.checks.print(&mut missed);
         println!("CALLs that moved, by what decides on PR7's segment:");
         self.stack_bases.print(&mut missed);
+        println!("steps completed, by what they did to the ring:");
+        self.ring_changes.print(&mut missed);
+        println!("starts of images by their doors, and calls from other segments there:");
+        self.doors.print(&mut missed);
         println!("tables of brackets, by what decides:");
         self.tables.print(&mut missed);
         println!("segments of descriptors, by what decides:");

@@ -1,12 +1,14 @@
 //! Two memories that differ in words hidden from ring n, each through the library along its stretch: same reply with the
 //! same pointer words, same registers after each step, and the words that aren't hidden still agree; and so the listings
-//! are equal texts. A stretch ends with the first step below ring n, or before the first that delivers a fault.
+//! are equal texts. A stretch ends with the first step below ring n, or before the first that delivers a fault. Of each
+//! step that was completed, what it did to the ring.
 
 use crate::compare::{Difference, Machine};
 use crate::describe;
 use crate::generator::{budget, Generator};
 use crate::library::{bench, Answer, Lent};
 use crate::random::Random;
+use second::doors::Change;
 use second::{Descriptor, Registers};
 
 /// The descriptors that pass questions 11 to 14.
@@ -49,10 +51,14 @@ pub struct Secrecy {
     other: Vec<u64>,
     mask: Vec<u64>,
     lent: [Lent; 2],
+    /// The memories before a step.
+    before: [Vec<u64>; 2],
     pub pairs: u64,
     pub steps: u64,
     pub ended_below: u64,
     pub ended_before_delivery: u64,
+    /// Steps through a door.
+    pub called: u64,
     pub faults: u64,
     pub hidden_words: u64,
     pub by_ring: [u64; 8],
@@ -73,10 +79,12 @@ impl Secrecy {
             other: Vec::new(),
             mask: Vec::new(),
             lent: [Lent::new(1), Lent::new(2)],
+            before: [Vec::new(), Vec::new()],
             pairs: 0,
             steps: 0,
             ended_below: 0,
             ended_before_delivery: 0,
+            called: 0,
             faults: 0,
             hidden_words: 0,
             by_ring: [0; 8],
@@ -96,7 +104,8 @@ impl Secrecy {
                     let other = Machine { memory: self.other.clone(), ..self.machine.clone() };
                     Box::new((Difference(text), n, self.machine.clone(), other))
                 };
-                let done = check(&self.machine, &self.other, &self.mask, n, &mut self.lent).map_err(differs)?;
+                let (lent, before) = (&mut self.lent, &mut self.before);
+                let done = check(&self.machine, &self.other, &self.mask, n, lent, before).map_err(differs)?;
                 // What the counts say of the listings is tried on every eighth pair.
                 if self.pairs % 8 == 7 {
                     same_listing(&self.machine, &self.other, &done).map_err(differs)?;
@@ -109,6 +118,7 @@ impl Secrecy {
                 self.steps += u64::from(done.steps);
                 self.ended_below += u64::from(done.ended_below);
                 self.ended_before_delivery += u64::from(done.ended_before_delivery);
+                self.called += done.called;
                 self.faults += u64::from(done.faulted);
                 let after = self.lent[0].memory().iter().zip(&self.machine.memory).zip(&self.mask);
                 self.wrote_hidden +=
@@ -173,6 +183,7 @@ struct Done {
     steps: u32,
     ended_below: bool,
     ended_before_delivery: bool,
+    called: u64,
     faulted: bool,
     /// Over the completed steps.
     pointer_words: u64,
@@ -183,31 +194,36 @@ struct Done {
 }
 
 /// The two stretches, step by step and then as runs.
-fn check(machine: &Machine, other: &[u64], mask: &[u64], n: u8, lent: &mut [Lent; 2]) -> Result<Done, Difference> {
+fn check(
+    machine: &Machine,
+    other: &[u64],
+    mask: &[u64],
+    n: u8,
+    lent: &mut [Lent; 2],
+    before: &mut [Vec<u64>; 2],
+) -> Result<Done, Difference> {
     let [one, two] = lent;
     one.set(&machine.registers, &machine.memory);
     two.set(&machine.registers, other);
     let mut done = Done { budget: machine.budget, ..Done::default() };
     let mut after_steps = machine.registers;
     while done.steps < machine.budget {
-        let answers = [one.step(), two.step()];
-        let is_below = |lent: &Lent, answer: Answer| answer.count == 1 && lent.registers().ipr.ring < n;
-        // A delivered fault ends in ring 0.
-        if is_below(one, answers[0]) || is_below(two, answers[1]) {
-            let memories = [&machine.memory[..], other];
-            let delivers = memories.map(|memory| delivers(machine, memory, done.steps));
-            if delivers[0] != delivers[1] {
-                return Err(Difference(format!("step {}: only one of them delivers a fault", done.steps + 1)));
-            }
-            if delivers[0] {
-                done.ended_before_delivery = true;
-                break;
-            }
+        let at_step = |text: String| Difference(format!("step {}: {text}", done.steps + 1));
+        let (one_answer, one_change) = one.step_and_change(&mut before[0]).map_err(at_step)?;
+        let (two_answer, two_change) = two.step_and_change(&mut before[1]).map_err(at_step)?;
+        let (answers, changes) = ([one_answer, two_answer], [one_change, two_change]);
+        let delivers = changes.map(|change| change == Some(Change::Delivered));
+        if delivers[0] != delivers[1] {
+            return Err(at_step("only one of them delivers a fault".to_string()));
         }
-        agree(answers, one, two, mask)
-            .map_err(|Difference(text)| Difference(format!("step {}: {text}", done.steps + 1)))?;
+        if delivers[0] {
+            done.ended_before_delivery = true;
+            break;
+        }
+        agree(answers, one, two, mask).map_err(|Difference(text)| at_step(text))?;
         after_steps = one.registers();
         let [answer, _] = answers;
+        done.called += u64::from(matches!(one_change, Some(Change::Called { .. })));
         done.steps += answer.count;
         done.faulted = answer.kind == Answer::FAULT;
         if done.faulted {
@@ -215,7 +231,7 @@ fn check(machine: &Machine, other: &[u64], mask: &[u64], n: u8, lent: &mut [Lent
         } else {
             done.pointer_words += answer.pointer_words;
         }
-        done.ended_below = is_below(one, answer);
+        done.ended_below = answer.count == 1 && after_steps.ipr.ring < n;
         if answer.kind != Answer::SPENT || done.ended_below {
             break;
         }
@@ -236,19 +252,6 @@ fn check(machine: &Machine, other: &[u64], mask: &[u64], n: u8, lent: &mut [Lent
         return Err(Difference(format!("the run of {budget} answers {run} pointer words, its steps {steps}")));
     }
     Ok(done)
-}
-
-/// Does the step after so many deliver a fault? With the switch off, such a step faults.
-fn delivers(machine: &Machine, memory: &[u64], steps: u32) -> bool {
-    if machine.registers.fault_switch == 0 {
-        return false;
-    }
-    let mut before = Lent::new(3);
-    before.set(&machine.registers, memory);
-    before.run(steps);
-    let mut plain = Lent::new(4);
-    plain.set(&Registers { fault_switch: 0, ..before.registers() }, before.memory());
-    plain.step().kind == Answer::FAULT
 }
 
 /// The two stretches as images: the bench's call gives one text.
