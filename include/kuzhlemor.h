@@ -188,6 +188,22 @@ kuzhlemor_old_answer kuzhlemor_to_old(uint64_t *words, size_t count);
  * than 1,280 bytes, a step that doesn't fault less than 512. */
 int64_t kuzhlemor_bench(const uint8_t *image, size_t image_length, uint8_t *text, size_t text_length);
 
+/* What an image will need: 0 and the five figures, or the number of the question that is answered no, and zeros. */
+typedef struct {
+    uint64_t number;
+    uint64_t memory;   /* words of memory */
+    uint64_t records;  /* WD records */
+    uint64_t budget;   /* steps */
+    uint64_t lines;    /* the most lines of its listing: budget + 1 */
+    uint64_t pointers; /* the most pointer words that its steps read: 64 * budget */
+} kuzhlemor_image_needs;
+
+/* Works out what an image will need, from its records alone: no memory is built, and no step is taken. It accepts and refuses
+ * just what kuzhlemor_bench does before 45, with the same numbers (41 to 44, 51, 1 to 4), here not negated; there is no text,
+ * so 45 isn't asked. No run of the image exceeds the figures. image isn't null, not even when the length is 0; it is only read.
+ * The call takes less than 2 KiB of stack. */
+kuzhlemor_image_needs kuzhlemor_needs(const uint8_t *image, size_t length);
+
 /* Makes a stored image of the old rules into one of today's, in place. By the old rules ST had 59 bytes, and an address might
  * have several WDs, of which the last held. ST gains five zero bytes at its end: switch, save segment and handler segment are
  * 0. ME and RN stay, and of the WDs of each address the last, all in the order in which they stood: the new image loads as the
@@ -245,6 +261,13 @@ static_assert(offsetof(kuzhlemor_row, execute) == 9, "E");
 static_assert(sizeof(kuzhlemor_old_answer) == 16, "size of a conversion's answer");
 static_assert(offsetof(kuzhlemor_old_answer, number) == 0, "number of a conversion's answer");
 static_assert(offsetof(kuzhlemor_old_answer, index) == 8, "index of a conversion's answer");
+static_assert(sizeof(kuzhlemor_image_needs) == 48, "size of an image's needs");
+static_assert(offsetof(kuzhlemor_image_needs, number) == 0, "number of an image's needs");
+static_assert(offsetof(kuzhlemor_image_needs, memory) == 8, "words of memory");
+static_assert(offsetof(kuzhlemor_image_needs, records) == 16, "WD records");
+static_assert(offsetof(kuzhlemor_image_needs, budget) == 24, "budget");
+static_assert(offsetof(kuzhlemor_image_needs, lines) == 32, "lines");
+static_assert(offsetof(kuzhlemor_image_needs, pointers) == 40, "pointer words of a run");
 #ifdef __cplusplus
 static_assert(alignof(kuzhlemor_registers) == 8, "alignment of the registers");
 static_assert(alignof(kuzhlemor_row) == 2, "alignment of a row");

@@ -1,5 +1,5 @@
 -- A stored image read in pieces: what each turn keeps, and each way out. Assumes nothing.
-use mathlib.Core.Path.{_≡_, sym, _∙_, subst}
+use mathlib.Core.Path.{_≡_, sym, subst}
 use mathlib.Core.Bool.{Bool}
 use mathlib.Core.List.{List, _++_}
 use Prim.Native.Nat.{ℕ, _+_, _-_, _≤_}
@@ -22,8 +22,8 @@ module _ (l : Loading) (m t : List ℕ) (kept size : ℕ) (e : Bool) (x : Conver
   pub still-within : Loading-within (x .loading) m-now
   still-within = w .within
 
-  pub still-full : length m ≡ 8320 → length m-now ≡ 8320
-  still-full full = w .size-same ∙ full
+  pub still-full : length m-now ≡ 8320
+  still-full = w .store-size
 
   pub outcome-fits : size + 5 ≤ length t → (5 ≤ length u) × Outcome-within (x .outcome) size u
   unfolding Buffer-after Piece-within
