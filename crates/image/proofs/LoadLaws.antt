@@ -21,8 +21,9 @@ use Rattle.loading.specs.declared.Outcome.{Outcome}
 use Rattle.loading.specs.declared.Outcome.the-variants.{Refused, Waits, Next, Ready}
 use Rattle.image.specs.declared.load.LoadOutcome.the-variants as Load
 use Rattle.loading.specs.View.{keeps-words, memory-in, as-loading, Loading-within, Memory-within, Starts, Starts-sizing}
-use Rattle.loading.specs.Record.{outcome-image, Goes, Outcome-within, Kept, Recorded-as, Recorded-in-store}
+use Rattle.loading.specs.Record.{outcome-image, Goes, Outcome-within, Kept, Word-taken, Recorded-as}
 use Rattle.loading.specs.declared.Recorded.{Recorded}
+use Rattle.loading.proofs.RecordLaws.{within-now, goes-next}
 use Rattle.image.specs.Load.{Loaded-so-far, Word-if, Word-loaded, Words-loaded, Loaded-as}
 
 pub no-record-yet : (l : Loading) (m bs : List ℕ) (e : Bool) → Loading-within l m → Loaded-so-far l m bs e 0 l m
@@ -162,38 +163,22 @@ module _ (l : Loading) (m bs : List ℕ) where
   unfolding Goes outcome-image
   no-word h = record { in-bytes = omega arith; same-length = refl; within = h; goes = λ e rest _. refl; some-bytes = λ f. absurd (f refl); none-same = λ _. refl }
 
-  module _ (x : Recorded) (m-now : List ℕ) (r : Recorded-in-store l m bs x m-now) (h : Loading-within l m) where
-    kept : (o : Outcome) → x .outcome ≡ o → Kept o l (x .loading) m m-now
-    kept o q = subst (λ a. Kept a l (x .loading) m m-now) q (r .recorded true .kept)
+  module _ (n : ℕ) (m-now : List ℕ) (w : Word-taken (l .«is_stored») (l .«has_memory») (l .words) m bs n m-now) (h : Loading-within l m) where
+    pub word-refused : (n ≡ 0 → ⊥) → Word-loaded l m bs 0 m-now
+    word-refused f = subst (Word-loaded l m bs 0) (sym (w .kept f)) (no-word h)
 
-    nothing : m-now ≡ m → Word-loaded l m bs 0 m-now
-    nothing e = subst (Word-loaded l m bs 0) (sym e) (no-word h)
-
-    pub word-refused : (k : ℕ) → x .outcome ≡ Refused k → Word-loaded l m bs 0 m-now
-    word-refused k q = nothing (kept (Refused k) q .1)
-
-    pub word-waits : x .outcome ≡ Waits → Word-loaded l m bs 0 m-now
-    word-waits q = nothing (kept Waits q .1)
-
-    pub word-ready : (b : ℕ) → x .outcome ≡ Ready b → Word-loaded l m bs 0 m-now
-    word-ready b q = nothing (kept (Ready b) q .1)
-
-    pub word-next : (s : ℕ) → x .outcome ≡ Next s → Word-loaded l m bs s m-now
-    unfolding Outcome-within
-    word-next s q =
+    pub word-next : n ≡ 0 → 14 ≤ length bs → Word-loaded l m bs 14 m-now
+    word-next z g =
         record {
-          in-bytes = (rw q at (r .recorded true .outcome-within)) .1;
-          some-bytes = λ _. (rw q at (r .recorded true .outcome-within)) .0;
-          none-same = λ f. absurd (let h = (rw q at (r .recorded true .outcome-within)) .0 in omega arith);
-          same-length = r .recorded true .size-same;
-          within = within-now;
-          goes = λ e. subst (λ k. Goes (as-loading l m) bs e (Next s) (as-loading k m-now)) (r .loading-same) (subst (λ o. Goes (as-loading l m) bs e o (as-loading (x .loading) m-now)) q (r .recorded e .goes));
+          in-bytes = g;
+          some-bytes = λ _. omega arith;
+          none-same = λ f. absurd (omega arith);
+          same-length = w .size-same;
+          within = within-now l m bs n m-now w h;
+          goes = goes-next l m bs n m-now w h z;
         }
-      where
-        within-now : Loading-within l m-now
-        within-now = subst (λ k. Loading-within k m-now) (r .loading-same) (r .recorded true .within)
 
-pub ruleset fronts = (word-in-front, front-marked, front-whole, no-word, word-refused, word-waits, word-ready, word-next)
+pub ruleset fronts = (word-in-front, front-marked, front-whole, no-word, word-refused, word-next)
 
 -- as a record of all their bytes, or else the next record
 module _ (l : Loading) (m bs : List ℕ) (e : Bool) (n : ℕ) (m-now : List ℕ) (w : Words-loaded l m bs n m-now) where

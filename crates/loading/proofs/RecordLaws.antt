@@ -4,7 +4,7 @@ use mathlib.Core.Bool.{Bool, true, false, cond}
 use mathlib.Core.Logic.{_⊎_, inl, inr}
 use mathlib.Core.List.{List, _++_, append-assoc}
 use mathlib.Core.Option.{some}
-use Prim.Native.Nat.{ℕ, _+_, _-_, _≤_, _<_}
+use Prim.Native.Nat.{ℕ, zero, suc, _+_, _-_, _≤_, _<_}
 use native.Mathlib.Omega.{arith}
 use lib.Dec.{leb, ltb}
 use lib.ListN.{length, take, drop, set, length-set, length-replicate, take-append-drop}
@@ -19,9 +19,10 @@ use Rattle.model.proofs.BranchLaws.{cond-holds}
 use Rattle.fields.proofs.MarkLaws.{mark-of-record}
 use Rattle.addresses.specs.Set.{in-set}
 use Rattle.loading.specs.declared.Loading.{Loading}
+use Rattle.loading.specs.declared.Outcome.{Outcome}
 use Rattle.loading.specs.declared.Outcome.the-variants.{Refused, Next}
-use Rattle.loading.specs.View.{rules-of, keeps-words, memory-in, set-in, rules-in, as-loading, Store-sized, Memory-within}
-use Rattle.loading.specs.Record.{outcome-image, Goes, Asked-51, word-put}
+use Rattle.loading.specs.View.{rules-of, keeps-words, memory-in, set-in, rules-in, as-loading, Store-sized, Memory-within, Loading-within}
+use Rattle.loading.specs.Record.{outcome-image, Goes, Outcome-within, Asked-51, word-put, word-outcome, Word-taken, Recorded-in-store}
 
 -- A WHOLE RECORD is judged by its own bytes
 front-and-rest : (n : ℕ) (bs rest : List ℕ) → bs ++ rest ≡ take n bs ++ (drop n bs ++ rest)
@@ -249,4 +250,43 @@ module _ (x : Loading) (m bs : List ℕ) (e : Bool) (is-marked : mark-of bs ≡ 
           loading-front WD x m bs is-marked whole rest
           ∙ rw (h, address, sized, lt-ltb _ _ g, may-be, n, word, put, p .rules-next, p .memory-next, p .set-next)
 
-pub ruleset word-loaded = (not-true, not-false, within-still, address-within, has-set, still-sized, asked-length, asked-has-set, asked-kept, put-size, wd-before-me, wd-outside, wd-written, wd-loaded)
+pub ruleset word-loaded = (not-true, not-false, within-still, address-within, has-set, asked-has-set, asked-kept, put-size, wd-before-me, wd-outside, wd-written, wd-loaded)
+
+-- A WD AS A RECORD
+module _ (l : Loading) (m bs : List ℕ) (n : ℕ) (m-now : List ℕ) (w : Word-taken (l .«is_stored») (l .«has_memory») (l .words) m bs n m-now) (within : Loading-within l m) where
+  pub within-now : Loading-within l m-now
+  within-now = record { sized = still-sized (l .«is_stored») m (within .sized) m-now (w .size-same); memory-within = w .memory-within }
+
+  pub goes-now : (o : Outcome) → word-outcome n ≡ o → (e : Bool) → Goes (as-loading l m) bs e o (as-loading l m-now)
+  unfolding as-loading
+  goes-now o q e = subst (λ a. Goes (as-loading l m) bs e a (as-loading l m-now)) q (w .goes (l .«has_registers») (l .registers) e)
+
+  pub goes-refused : (n ≡ 0 → ⊥) → (e : Bool) → Goes (as-loading l m) bs e (Refused n) (as-loading l m-now)
+  unfolding word-outcome
+  goes-refused h e = goes-now (Refused n) (by-number n h) e
+    where
+      by-number : (k : ℕ) → (k ≡ 0 → ⊥) → word-outcome k ≡ Refused k
+      by-number zero h = absurd (h refl)
+      by-number (suc k) h = refl
+
+  pub goes-next : n ≡ 0 → (e : Bool) → Goes (as-loading l m) bs e (Next 14) (as-loading l m-now)
+  unfolding word-outcome
+  goes-next z e = goes-now (Next 14) (ap word-outcome z) e
+
+  pub recorded-refused : (n ≡ 0 → ⊥) → Recorded-in-store l m bs (record { loading = l; outcome = Refused n }) m-now
+  unfolding Outcome-within
+  recorded-refused h =
+      record {
+        loading-same = refl;
+        recorded = λ e. record { size-same = w .size-same; within = within-now; goes = goes-refused h e; outcome-within = omega arith; kept = (refl, w .kept h) };
+      }
+
+  pub recorded-next : n ≡ 0 → 14 ≤ length bs → Recorded-in-store l m bs (record { loading = l; outcome = Next 14 }) m-now
+  unfolding Outcome-within
+  recorded-next z h =
+      record {
+        loading-same = refl;
+        recorded = λ e. record { size-same = w .size-same; within = within-now; goes = goes-next z e; outcome-within = (omega arith, h); kept = tt };
+      }
+
+pub ruleset word-recorded = (recorded-refused, recorded-next)

@@ -2,16 +2,17 @@
 use mathlib.Core.Path.{_≡_}
 use mathlib.Core.Bool.{Bool, true, false, cond}
 use mathlib.Core.List.{List, [], _++_}
-use Prim.Native.Nat.{ℕ, _-_, _≤_, _<_}
+use Prim.Native.Nat.{ℕ, zero, suc, _-_, _≤_, _<_}
 use lib.Dec.{ltb}
 use lib.ListN.{length, set, take, drop}
 use Rattle.addresses.specs.Set.{in-set}
 use Rattle.model.specs.Image as Image
+use Rattle.host.specs.declared.record.Registers.{Registers}
 use Rattle.loading.specs.declared.Loading.{Loading}
 use Rattle.loading.specs.declared.Outcome.{Outcome}
 use Rattle.loading.specs.declared.Outcome.the-variants.{Refused, Waits, Next, Ready}
 use Rattle.loading.specs.declared.Recorded.{Recorded}
-use Rattle.loading.specs.View.{set-in, as-loading, Loading-within}
+use Rattle.loading.specs.View.{set-in, as-loading, Memory-within, Loading-within}
 
 -- the image, by an outcome, what is loaded after it, the bytes it was found in and those that come after them
 unfoldable pub outcome-image : Outcome → Image.Loading → (bytes rest : List ℕ) → Image.Image
@@ -56,6 +57,19 @@ pub record Asked-51 (v : Image.Rules) (a : ℕ) (m : List ℕ) (answer : Bool) (
 -- a word in its place, where the store has memory
 unfoldable pub word-put : (address word : ℕ) → (store : List ℕ) → List ℕ
 word-put a v m = cond (ltb a (length m - 128)) (set m a v) m
+
+-- WD: the number of a no, or 0 where its word was taken; and that by what it looks at of the records so far, whatever the rest is
+unfoldable pub word-outcome : (answer : ℕ) → Outcome
+word-outcome zero = Next 14
+word-outcome (suc n) = Refused (suc n)
+
+pub record Word-taken (v h : Bool) (words : ℕ) (m bs : List ℕ) (n : ℕ) (m-now : List ℕ) : Type 0 where
+  pub size-same : length m-now ≡ length m
+  pub memory-within : Memory-within h words m-now
+  pub goes : (g : Bool) (r : Registers) (e : Bool) →
+      let l : Loading = record { «is_stored» = v; «has_memory» = h; words = words; «has_registers» = g; registers = r } in
+      Goes (as-loading l m) bs e (word-outcome n) (as-loading l m-now)
+  pub kept : (n ≡ 0 → ⊥) → m-now ≡ m
 
 -- a record that doesn't ask whether more bytes come, and changes nothing but the store
 pub record Recorded-in-store (l : Loading) (m bs : List ℕ) (x : Recorded) (m-now : List ℕ) : Type 0 where
