@@ -1,6 +1,7 @@
 /* The library's time against a plain C and a plain Rust processor's, on programs that loop until the budget is spent, on single
- * steps, on listings, and on the largest images, loaded and converted. They run in turn from the same start, the best time of
- * each counts, and all must end alike. With BEFORE an earlier library, whose entries are called before_.., runs among them. */
+ * steps, on listings, and on the largest images, loaded, asked for their needs and converted. They run in turn from the same
+ * start, the best time of each counts, and all must end alike. With BEFORE an earlier library, whose entries are called
+ * before_.., runs among them. */
 #define _POSIX_C_SOURCE 199309L
 
 #include "images.h"
@@ -27,6 +28,7 @@ typedef struct {
 typedef kuzhlemor_reply run_function(kuzhlemor_registers *, uint64_t *, size_t, uint32_t);
 typedef kuzhlemor_reply step_function(kuzhlemor_registers *, uint64_t *, size_t);
 typedef int64_t bench_function(const uint8_t *, size_t, uint8_t *, size_t);
+typedef kuzhlemor_image_needs needs_function(const uint8_t *, size_t);
 typedef int64_t convert_function(uint8_t *, size_t);
 
 /* The second implementation, in Rust (bench/rust). */
@@ -341,7 +343,19 @@ static size_t put_largest(uint8_t *image, st_function *st, uint32_t wds, uint32_
     return (size_t)(put_rn(to, 0) - image);
 }
 
-/* An image loaded whole, and no step of it run. */
+/* The time of an image loaded whole, and no step of it run. */
+static double timed_loading(const char *name, bench_function *bench, const uint8_t *image, size_t length)
+{
+    uint8_t text[64];
+    double before = now();
+    int64_t answer = bench(image, length, text, sizeof text);
+    double time = now() - before;
+
+    if (answer != 10 || memcmp(text, "spent 0 0\n", 10) != 0)
+        differ(name);
+    return time;
+}
+
 static void measure_loading(const char *name)
 {
     static uint8_t image[LARGEST];
@@ -349,16 +363,44 @@ static void measure_loading(const char *name)
     double best[CONTESTANTS] = {0};
 
     for (int round = 0; round < LOADS; round++)
-        for (int k = 0; k < CONTESTANTS; k++) {
-            uint8_t text[64];
-            double before = now();
-            int64_t answer = contestants[k].bench(image, length, text, sizeof text);
-
-            keep_least(&best[k], now() - before);
-            if (answer != 10 || memcmp(text, "spent 0 0\n", 10) != 0)
-                differ(name);
-        }
+        for (int k = 0; k < CONTESTANTS; k++)
+            keep_least(&best[k], timed_loading(name, contestants[k].bench, image, length));
     print_row(name, MOST_WORDS, best);
+}
+
+/* A row where there is no plain Rust to set beside plain C and the library. */
+static void print_pair(const char *name, double plain, double library)
+{
+    printf("%-32s %10.2f %10s %10.2f %12.2f %12s\n", name, plain, "-", library, library / plain, "-");
+}
+
+static double timed_needs(const char *name, needs_function *needs, const uint8_t *image, size_t length)
+{
+    double before = now();
+    kuzhlemor_image_needs answer = needs(image, length);
+    double time = now() - before;
+
+    if (!same_needs(answer, (kuzhlemor_image_needs){.memory = MOST_WORDS, .records = MOST_WORDS, .lines = 1}))
+        differ(name);
+    return time;
+}
+
+/* The same image, asked for its needs and loaded in turn; then the first time by the second, of either. */
+static void measure_needs(const char *name, const char *ratio)
+{
+    static uint8_t image[LARGEST];
+    size_t length = put_largest(image, put_st, MOST_WORDS, 1);
+    double asked[2] = {0};
+    double loaded[2] = {0};
+
+    for (int round = 0; round < LOADS; round++) {
+        keep_least(&asked[0], timed_needs(name, plain_needs, image, length));
+        keep_least(&loaded[0], timed_loading(name, plain_bench, image, length));
+        keep_least(&asked[1], timed_needs(name, kuzhlemor_needs, image, length));
+        keep_least(&loaded[1], timed_loading(name, kuzhlemor_bench, image, length));
+    }
+    print_pair(name, asked[0] / MOST_WORDS, asked[1] / MOST_WORDS);
+    printf("%-32s %10.2f %10s %10.2f\n", ratio, asked[0] / loaded[0], "-", asked[1] / loaded[1]);
 }
 
 /* The time of a conversion, and in `end` what it leaves; the length is with the room that it needs. Every one has the same
@@ -377,7 +419,7 @@ static double timed_conversion(convert_function *convert, const uint8_t *from, s
     return time;
 }
 
-/* Every address twice, so that half of the WDs go. There is no plain Rust to set beside this. */
+/* Every address twice, so that half of the WDs go. */
 static void measure_converting(const char *name)
 {
     static uint8_t from[LARGEST];
@@ -395,8 +437,7 @@ static void measure_converting(const char *name)
         if (answers[0] != (int64_t)(length - 14 * MOST_WORDS) || answers[0] != answers[1] || memcmp(x, y, length) != 0)
             differ(name);
     }
-    printf("%-32s %10.2f %10s %10.2f %12.2f %12s\n", name, plain / (2 * MOST_WORDS), "-", library / (2 * MOST_WORDS),
-           library / plain, "-");
+    print_pair(name, plain / (2 * MOST_WORDS), library / (2 * MOST_WORDS));
 }
 
 int main(void)
@@ -425,6 +466,7 @@ int main(void)
     measure_listing("calls and returns, listed", calls_and_returns);
     printf("%-32s %10s %10s %10s\n", "image", "ns a WD", "ns a WD", "ns a WD");
     measure_loading("8,192 WDs, loaded");
+    measure_needs("8,192 WDs, asked for needs", "  by the time of loading them");
     measure_converting("16,384 WDs, converted");
     return 0;
 }

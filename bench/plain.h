@@ -17,6 +17,9 @@ size_t plain_list(kuzhlemor_registers *registers, uint64_t *memory, size_t words
 /* As kuzhlemor_bench. */
 int64_t plain_bench(const uint8_t *image, size_t image_length, uint8_t *text, size_t text_length);
 
+/* As kuzhlemor_needs. */
+kuzhlemor_image_needs plain_needs(const uint8_t *image, size_t length);
+
 /* As kuzhlemor_may_call. */
 kuzhlemor_check plain_may_call(const kuzhlemor_registers *registers, const uint64_t *memory, size_t words, uint8_t ring,
                                uint16_t segment, uint16_t word);

@@ -1,24 +1,13 @@
 /* Images and listings of the plain processor. */
-#include "images.h"
+#include "plain_records.h"
 #include "plain_step.h"
 
 #include <string.h>
 
-enum {
-    MOST_IMAGE_WORDS = 8192
-};
-
-/* By the old rules ST has no switch and segments, and an address may have several WDs, of which the last holds. */
-typedef enum {
-    TODAYS_RULES, OLD_RULES
-} rules;
-
 /* What an image records. */
 typedef struct {
-    kuzhlemor_registers registers;
+    image_start start;
     uint64_t memory[MOST_IMAGE_WORDS];
-    size_t words;
-    uint32_t budget;
 } image_machine;
 
 /* A number in decimal, and the byte that ends it. */
@@ -77,81 +66,16 @@ size_t plain_list(kuzhlemor_registers *registers, uint64_t *memory, size_t words
     return (size_t)(put(put(put_word(to, "spent "), budget, ' '), total, '\n') - text);
 }
 
-static bool has_mark(const uint8_t *record, const char *mark)
-{
-    return record[0] == mark[0] && record[1] == mark[1];
-}
-
-static size_t st_size(rules by)
-{
-    return by == TODAYS_RULES ? ST_SIZE : STORED_ST_SIZE;
-}
-
-/* 41 to 44 and 51 of each record, in order; the number of the first no, or 0. */
-static int load(const uint8_t *image, size_t length, rules by, image_machine *m)
-{
-    uint64_t written[MOST_IMAGE_WORDS / 64] = {0};
-    bool has_registers = false;
-    bool has_memory = false;
-
-    while (length > 0) {
-        const uint8_t *numbers = image + 2;
-        bool me = length >= 2 && has_mark(image, "ME");
-        bool st = length >= 2 && has_mark(image, "ST");
-        bool wd = length >= 2 && has_mark(image, "WD");
-        bool rn = length >= 2 && has_mark(image, "RN");
-        size_t size = st ? st_size(by) : wd ? 14 : 6;
-
-        if (!(me || st || wd || rn) || length < size)
-            return 41;
-        if (me ? has_memory : !has_memory || (st && has_registers) || (rn && (!has_registers || length > size)))
-            return 42;
-        if (me) {
-            if (number_at(numbers, 4) > MOST_IMAGE_WORDS)
-                return 43;
-            m->words = number_at(numbers, 4);
-            has_memory = true;
-        } else if (st) {
-            m->registers = by == TODAYS_RULES ? registers_at(numbers) : stored_registers_at(numbers);
-            has_registers = true;
-        } else if (wd) {
-            uint64_t address = number_at(numbers, 4);
-            uint64_t bit = (uint64_t)1 << address % 64;
-
-            if (address >= m->words)
-                return 44;
-            if (by == TODAYS_RULES && (written[address / 64] & bit) != 0)
-                return 51;
-            written[address / 64] |= bit;
-            m->memory[address] = number_at(numbers + 4, 8);
-        } else {
-            m->budget = (uint32_t)number_at(numbers, 4);
-            return 0;
-        }
-        image += size;
-        length -= size;
-    }
-    return 42;
-}
-
-/* The same, then 1 to 4. */
-static int load_and_ask(const uint8_t *image, size_t length, rules by, image_machine *m)
-{
-    int number = load(image, length, by, m);
-
-    return number != 0 ? number : (int)refusal(&m->registers, m->words);
-}
-
 int64_t plain_bench(const uint8_t *image, size_t image_length, uint8_t *text, size_t text_length)
 {
     image_machine m = {0};
-    int number = load_and_ask(image, image_length, TODAYS_RULES, &m);
+    int number = load_and_ask(image, image_length, TODAYS_RULES, &m.start, m.memory);
 
-    if (number == 0 && text_length < 64 * ((uint64_t)m.budget + 1))
+    if (number == 0 && text_length < 64 * ((uint64_t)m.start.budget + 1))
         number = 45;
     if (number != 0)
         return -number;
-    return (int64_t)plain_list(&m.registers, m.memory, m.words, m.budget, text);
+    return (int64_t)plain_list(&m.start.registers, m.memory, m.start.words, m.start.budget, text);
 }
 
 /* The size of a record of an accepted stored image. */
@@ -188,7 +112,7 @@ int64_t plain_convert(uint8_t *image, size_t length)
     size_t stored = length < ST_GAIN ? 0 : length - ST_GAIN;
     size_t st = 0;
     size_t kept;
-    int number = load_and_ask(image, stored, OLD_RULES, &m);
+    int number = load_and_ask(image, stored, OLD_RULES, &m.start, m.memory);
 
     if (number != 0)
         return -number;

@@ -1,4 +1,4 @@
-/* Equality of replies, checks and registers, field by field: padding doesn't count. */
+/* Equality of replies, checks, needs and registers, field by field: padding doesn't count. */
 #ifndef SAME_H
 #define SAME_H
 
@@ -20,6 +20,12 @@ static inline bool same_reply(kuzhlemor_reply x, kuzhlemor_reply y)
 static inline bool same_check(kuzhlemor_check x, kuzhlemor_check y)
 {
     return x.kind == y.kind && x.number == y.number && x.ring == y.ring && same_pointer(x.pointer, y.pointer);
+}
+
+static inline bool same_needs(kuzhlemor_image_needs x, kuzhlemor_image_needs y)
+{
+    return x.number == y.number && x.memory == y.memory && x.records == y.records && x.budget == y.budget &&
+           x.lines == y.lines && x.pointers == y.pointers;
 }
 
 static inline bool same_registers(const kuzhlemor_registers *x, const kuzhlemor_registers *y)

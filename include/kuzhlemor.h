@@ -1,8 +1,8 @@
 /* The ring processor as a C library: one step, or a run under a budget, over a register record and a memory that the
  * caller lends; brackets set for ranges of segments by a table (kuzhlemor_set_brackets); descriptors of the oldest benches made
- * into today's and back (kuzhlemor_from_old, kuzhlemor_to_old); a whole image run for its listing; and a stored image of the old
- * rules made into one of today's. Link with libkuzhlemor.a (x86-64, System V calling
- * convention), which needs nothing but memset and memmove.
+ * into today's and back (kuzhlemor_from_old, kuzhlemor_to_old); a whole image run for its listing; what an image will need
+ * (kuzhlemor_needs); and a stored image of the old rules made into one of today's. Link with libkuzhlemor.a (x86-64, System V
+ * calling convention), which needs nothing but memset and memmove.
  *
  * The caller tests nothing first. Any values in the record and in memory, broken ones too, any number of words and any
  * budget get a defined reply. What the caller owes is the usual of C:
@@ -188,6 +188,24 @@ kuzhlemor_old_answer kuzhlemor_to_old(uint64_t *words, size_t count);
  * than 1,280 bytes, a step that doesn't fault less than 512. */
 int64_t kuzhlemor_bench(const uint8_t *image, size_t image_length, uint8_t *text, size_t text_length);
 
+/* What an image needs: number 0, then its words of memory, its WD records, its budget, and the most lines (budget + 1) and
+ * pointer words (64 * budget) that a listing of it can have. Of a refused image: the question's number, and the rest is 0. */
+typedef struct {
+    uint64_t number;
+    uint64_t memory;
+    uint64_t records;
+    uint64_t budget;
+    uint64_t lines;
+    uint64_t pointers;
+} kuzhlemor_image_needs;
+
+/* What will this image need? It is worked out from the records: no memory is built, and no step taken. The image is accepted and
+ * refused just as by kuzhlemor_bench, with the same number, here not negated: 41 to 44 and 51 of each record, then 1 to 4 with
+ * ME's number as memory's size. 45 isn't asked, since there is no text; a buffer of 64 * lines bytes passes it. No run of the
+ * image, under its budget or a smaller one, exceeds these figures. image is only read; it isn't null, not even when the length is
+ * 0. The call takes less than 8 KiB of stack. */
+kuzhlemor_image_needs kuzhlemor_needs(const uint8_t *image, size_t length);
+
 /* Makes a stored image of the old rules into one of today's, in place. By the old rules ST had 59 bytes, and an address might
  * have several WDs, of which the last held. ST gains five zero bytes at its end: switch, save segment and handler segment are
  * 0. ME and RN stay, and of the WDs of each address the last, all in the order in which they stood: the new image loads as the
@@ -245,6 +263,13 @@ static_assert(offsetof(kuzhlemor_row, execute) == 9, "E");
 static_assert(sizeof(kuzhlemor_old_answer) == 16, "size of a conversion's answer");
 static_assert(offsetof(kuzhlemor_old_answer, number) == 0, "number of a conversion's answer");
 static_assert(offsetof(kuzhlemor_old_answer, index) == 8, "index of a conversion's answer");
+static_assert(sizeof(kuzhlemor_image_needs) == 48, "size of an image's needs");
+static_assert(offsetof(kuzhlemor_image_needs, number) == 0, "number of an image's needs");
+static_assert(offsetof(kuzhlemor_image_needs, memory) == 8, "words of memory");
+static_assert(offsetof(kuzhlemor_image_needs, records) == 16, "WD records");
+static_assert(offsetof(kuzhlemor_image_needs, budget) == 24, "budget");
+static_assert(offsetof(kuzhlemor_image_needs, lines) == 32, "lines");
+static_assert(offsetof(kuzhlemor_image_needs, pointers) == 40, "pointers");
 #ifdef __cplusplus
 static_assert(alignof(kuzhlemor_registers) == 8, "alignment of the registers");
 static_assert(alignof(kuzhlemor_row) == 2, "alignment of a row");

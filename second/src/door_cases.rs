@@ -412,6 +412,11 @@ fn refusals(inputs: &mut Inputs) {
 
 /// 01's case 12, whose formula has one gate.
 fn case_12(inputs: &mut Inputs) {
+    inputs.add("case 12", &[&case_12_image()], "door 5 0 2 5 1\ndoors 1\n");
+}
+
+/// Its image, with six words and a budget of 9.
+pub(crate) fn case_12_image() -> Vec<u8> {
     let mut image = me(64);
     image.extend(b"ST");
     image.extend([0; 13]);
@@ -431,7 +436,7 @@ fn case_12(inputs: &mut Inputs) {
         image.extend(wd(address, word));
     }
     image.extend(rn(9));
-    inputs.add("case 12", &[&image], "door 5 0 2 5 1\ndoors 1\n");
+    image
 }
 
 // ---- Steps.

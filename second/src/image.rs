@@ -127,9 +127,44 @@ fn read(bytes: &[u8], rules: Rules) -> Result<Image, u8> {
 
 /// The image of its records alone: 41 to 44 and 51, but not 1 to 4.
 pub(crate) fn read_records(bytes: &[u8], rules: Rules) -> Result<Image, u8> {
+    let Read { given, registers, budget, .. } = read_each::<Vec<Option<u64>>>(bytes, rules)?;
+    // Memory is all zero but for the words given.
+    let memory = given.into_iter().map(Option::unwrap_or_default).collect();
+    Ok(Image { registers, memory, budget })
+}
+
+/// What is kept of the WDs.
+pub(crate) trait Given {
+    /// Of none, with so many words of memory.
+    fn none(words: u32) -> Self;
+    /// One more. Answers whether an earlier one has the address, which is one of memory's.
+    fn give(&mut self, address: u32, word: u64) -> bool;
+}
+
+impl Given for Vec<Option<u64>> {
+    fn none(words: u32) -> Self {
+        vec![None; words as usize]
+    }
+
+    fn give(&mut self, address: u32, word: u64) -> bool {
+        self[address as usize].replace(word).is_some()
+    }
+}
+
+/// What the records hand over.
+pub(crate) struct Read<G> {
+    /// ME's number.
+    pub words: u32,
+    pub given: G,
+    pub registers: Registers,
+    pub budget: u32,
+}
+
+/// 41 to 44 and 51, record by record.
+pub(crate) fn read_each<G: Given>(bytes: &[u8], rules: Rules) -> Result<Read<G>, u8> {
     let mut bytes = Bytes(bytes);
-    // The words that WDs have given.
-    let mut given: Option<Vec<Option<u64>>> = None;
+    // ME's number, and what WDs have given.
+    let mut memory: Option<(u32, G)> = None;
     let mut registers: Option<Registers> = None;
     let mut budget: Option<u32> = None;
 
@@ -140,7 +175,7 @@ pub(crate) fn read_records(bytes: &[u8], rules: Rules) -> Result<Image, u8> {
         }
         // 41
         let record = bytes.record(rules).ok_or(41)?;
-        match (record, &mut given) {
+        match (record, &mut memory) {
             // 42: ME first and single?
             (Record::Me { .. }, Some(_)) => return Err(42),
             (Record::St { .. } | Record::Wd { .. } | Record::Rn { .. }, None) => return Err(42),
@@ -149,7 +184,7 @@ pub(crate) fn read_records(bytes: &[u8], rules: Rules) -> Result<Image, u8> {
                 if words > ME_LIMIT {
                     return Err(43);
                 }
-                given = Some(vec![None; words as usize]);
+                memory = Some((words, G::none(words)));
             }
             (Record::St { registers: handed }, Some(_)) => {
                 // 42: ST single?
@@ -158,14 +193,15 @@ pub(crate) fn read_records(bytes: &[u8], rules: Rules) -> Result<Image, u8> {
                 }
                 registers = Some(handed);
             }
-            (Record::Wd { address, word }, Some(given)) => {
+            (Record::Wd { address, word }, Some((words, given))) => {
                 // 44: WD address below ME's number?
-                let place = given.get_mut(address as usize).ok_or(44)?;
+                if address >= *words {
+                    return Err(44);
+                }
                 // 51: has no earlier WD the address?
-                if place.is_some() && rules == Rules::Today {
+                if given.give(address, word) && rules == Rules::Today {
                     return Err(51);
                 }
-                *place = Some(word);
             }
             (Record::Rn { budget: handed }, Some(_)) => {
                 // 42: ST before RN?
@@ -178,12 +214,10 @@ pub(crate) fn read_records(bytes: &[u8], rules: Rules) -> Result<Image, u8> {
     }
 
     // 42 is also no for a file without RN, and for an empty one.
-    let (Some(registers), Some(given), Some(budget)) = (registers, given, budget) else {
-        return Err(42);
-    };
-    // Memory is all zero but for the words given.
-    let memory = given.into_iter().map(Option::unwrap_or_default).collect();
-    Ok(Image { registers, memory, budget })
+    match (memory, registers, budget) {
+        (Some((words, given)), Some(registers), Some(budget)) => Ok(Read { words, given, registers, budget }),
+        _ => Err(42),
+    }
 }
 
 // ---- Writing.

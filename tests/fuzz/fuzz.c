@@ -1,8 +1,8 @@
 /* A fuzzer's input compared: the plain C processor, built for coverage, and the library must give the same answer, registers
- * and memory, byte for byte. An input's first byte says whether the rest is an image, which is run, and converted and then run,
- * or a register record and a memory, which are run, and asked whether a call may go to some pointers. Of either sort, the rest is
- * also taken for such a memory, and its end for a table that sets brackets in it; and for words of descriptors, old ones and
- * today's, which are converted either way. */
+ * and memory, byte for byte. An input's first byte says whether the rest is an image, which is run and asked for its needs, as it
+ * is and converted, or a register record and a memory, which are run, and asked whether a call may go to some pointers. Of either
+ * sort, the rest is also taken for such a memory, and its end for a table that sets brackets in it; and for words of descriptors,
+ * old ones and today's, which are converted either way. */
 #include "images.h"
 #include "kuzhlemor.h"
 #include "padding.h"
@@ -31,6 +31,21 @@ static void require(int same, const char *what)
     }
 }
 
+/* The needs of an image, for which a run with this much room for its text had this answer: the same number, or no refusal but 45,
+ * where the text may have more lines than there is room for. */
+static void compare_needs(const uint8_t *image, size_t length, size_t room, int64_t answer)
+{
+    kuzhlemor_image_needs x = plain_needs(image, length);
+    kuzhlemor_image_needs y = kuzhlemor_needs(image, length);
+    int64_t number = answer < 0 ? -answer : 0;
+
+    require(same_needs(x, y), "an image's needs");
+    if (number == 45)
+        require(y.number == 0 && y.lines > room / 64, "the needs of an image with too long a text");
+    else
+        require(y.number == (uint64_t)number, "the number of an image's needs and of the bench's answer");
+}
+
 /* A text buffer a little short, just right or longer, so that 45 is reached from both sides. */
 static void compare_images(const uint8_t *image, size_t length, uint8_t how)
 {
@@ -46,6 +61,7 @@ static void compare_images(const uint8_t *image, size_t length, uint8_t how)
     library = kuzhlemor_bench(image, length, y, room);
     require(plain == library, "the bench's answer");
     require(memcmp(x, y, sizeof x) == 0, "a byte of the buffer");
+    compare_needs(image, length, room, library);
 }
 
 /* An image converted in place, with room behind it and a byte that must stay; what it becomes is run. */

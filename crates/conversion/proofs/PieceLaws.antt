@@ -19,7 +19,7 @@ use Rattle.model.proofs.OverwrittenLaws.{last-of-each-loads}
 use Rattle.loading.specs.declared.Loading.{Loading}
 use Rattle.loading.specs.View.{as-loading, Loading-within}
 use Rattle.loading.specs.Record.{Goes, outcome-image}
-use Rattle.loading.proofs.RecordLaws.{within-still}
+use Rattle.loading.proofs.RecordLaws.{within-still, still-sized}
 use Rattle.image.specs.declared.load.LoadOutcome.the-variants as Load
 use Rattle.image.specs.declared.load.Loaded.{Loaded}
 use Rattle.image.specs.Load.{Loaded-as}
@@ -41,7 +41,7 @@ drop-take (suc a) (suc b) [] = sym (take-nil (suc b - suc a))
 drop-take (suc a) (suc b) (x ∷ xs) = drop-take a b xs ∙ ap (λ n. take n (drop a xs)) (let e : b - a ≡ suc b - suc a = omega arith in e)
 
 module _ (l : Loading) (m t : List ℕ) (kept size : ℕ) (e : Bool) (x : Loaded) (m-now : List ℕ)
-    (w : Loaded-as l m (waiting kept size t) e x m-now) (h : kept ≤ size) (room : size + 5 ≤ length t) where
+    (w : Loaded-as l m (waiting kept size t) e x m-now) (full : length m ≡ 8320) (h : kept ≤ size) (room : size + 5 ≤ length t) where
   waiting-size : length (waiting kept size t) ≡ size - kept
   waiting-size = length-take-le (size - kept) (drop kept t) (let z = length-drop kept t in omega arith)
 
@@ -50,6 +50,7 @@ module _ (l : Loading) (m t : List ℕ) (kept size : ℕ) (e : Bool) (x : Loaded
   unfolding Piece-judged Judged-as Buffer-after Piece-within Goes outcome-image
   piece-refused n o =
       record {
+        store-size = w .size-same ∙ full;
         within = w .within;
         judged = λ rest z. w .goes rest z ∙ rw o;
         buffer-after = refl;
@@ -72,6 +73,7 @@ module _ (l : Loading) (m t : List ℕ) (kept size : ℕ) (e : Bool) (x : Loaded
     unfolding Piece-judged Judged-as Buffer-after Piece-within Goes outcome-image
     piece-more =
         record {
+          store-size = w .size-same ∙ full;
           within = w .within;
           judged = λ rest z. w .goes rest z ∙ rw o (ap (λ ys. Image.image-after (as-loading (x .loading) m-now) (ys ++ rest)) still-waiting);
           buffer-after = refl;
@@ -93,7 +95,7 @@ module _ (l : Loading) (m t : List ℕ) (kept size : ℕ) (e : Bool) (x : Loaded
       within-judged : Loading-within (x .loading) m-judged
       within-judged =
           record {
-            sized = l-judged ∙ w .within .sized;
+            sized = still-sized (x .loading .«is_stored») m-now (w .within .sized) m-judged l-judged;
             memory-within = within-still (x .loading .«has_memory») (x .loading .words) m-now (w .within .memory-within) ready-memory m-judged;
           }
 
@@ -106,6 +108,7 @@ module _ (l : Loading) (m t : List ℕ) (kept size : ℕ) (e : Bool) (x : Loaded
       unfolding Piece-judged Judged-as Buffer-after Piece-within
       piece-judged-no f =
           record {
+            store-size = l-judged ∙ w .size-same ∙ full;
             within = within-judged;
             judged = λ rest z. whole rest z ∙ checked-refused _ _ b n asked f;
             buffer-after = refl;
@@ -117,6 +120,7 @@ module _ (l : Loading) (m t : List ℕ) (kept size : ℕ) (e : Bool) (x : Loaded
       unfolding Piece-judged Judged-as Buffer-after Piece-within
       piece-ready f k u c =
           record {
+            store-size = l-judged ∙ w .size-same ∙ full;
             within = within-judged;
             judged =
                 λ rest z.

@@ -42,6 +42,7 @@ Piece-within kept size e (More n) = (e ≡ false) × (kept ≤ n) × (n ≤ size
 Piece-within kept size e (Ready n) = e ≡ true
 
 pub record Piece-converted (l : Loading) (m t : List ℕ) (kept size : ℕ) (e : Bool) (x : Converted) (m-now u : List ℕ) : Type 0 where
+  pub store-size : length m-now ≡ 8320
   pub within : Loading-within (x .loading) m-now
   pub judged : Piece-judged (as-loading l m) t kept size e (x .outcome) (as-loading (x .loading) m-now)
   pub buffer-after : Buffer-after (x .outcome) size t u

@@ -30,7 +30,7 @@ pub struct Converted {
 
 // 1 to 4 of what an image recorded.
 fn judge(loading: Loading, store: &[u64]) -> u8
-    requires { ⌜ Loading-within loading (now store) × (loading .«has_memory» ≡ true) × (loading .«has_registers» ≡ true) ⌝ }
+    requires { ⌜ Loading-within loading (now store) × (length (now store) ≡ 8320) × (loading .«has_memory» ≡ true) × (loading .«has_registers» ≡ true) ⌝ }
     ensures { λ n. ⌜ n ≡ start-questions (as-loading loading (now (store .entry)) .delivery) (machine-of (as-loading loading (now (store .entry)))) ⌝ }
 {
     let words = loading.words as usize;
@@ -48,7 +48,7 @@ pub fn convert_piece(
     size: usize,
     ended: bool,
 ) -> Converted
-    requires { ⌜ Loading-within loading (now store) × (kept ≤ size) × (size + 5 ≤ length (now buffer)) ⌝ }
+    requires { ⌜ Loading-within loading (now store) × (length (now store) ≡ 8320) × (kept ≤ size) × (size + 5 ≤ length (now buffer)) ⌝ }
     ensures { λ x. ⌜ Piece-converted loading (now (store .entry)) (now (buffer .entry)) kept size ended x (now (store .exit)) (now (buffer .exit)) ⌝ }
 {
     let x = image::load::load(loading, store, &buffer[kept..size], ended);

@@ -22,6 +22,9 @@ module _ (l : Loading) (m t : List ℕ) (kept size : ℕ) (e : Bool) (x : Conver
   pub still-within : Loading-within (x .loading) m-now
   still-within = w .within
 
+  pub still-full : length m-now ≡ 8320
+  still-full = w .store-size
+
   pub outcome-fits : size + 5 ≤ length t → (5 ≤ length u) × Outcome-within (x .outcome) size u
   unfolding Buffer-after Piece-within
   outcome-fits h = by-outcome (x .outcome) (w .buffer-after) (w .outcome-within)
@@ -72,7 +75,7 @@ new-size o u n h q = sym (length-take-le n u (new-image o u n h q))
 
 pub ruleset outcomes = (more-kept, more-size, ready-fits)
 
-pub ruleset turns = (still-within, outcome-fits, five-left, goes-on-within)
+pub ruleset turns = (still-within, still-full, outcome-fits, five-left, goes-on-within)
 
 pub ruleset limits = (limit-size, limit-room, limit-kept)
 

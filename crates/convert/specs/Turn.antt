@@ -38,5 +38,6 @@ pub record Goes-on (l : Loading) (y : Turn) (buffer : List ℕ) : Type 0 where
 
 pub record Turn-within (l : Loading) (r : Room) (store buffer : List ℕ) : Type 0 where
   pub within : Loading-within l store
+  pub store-size : length store ≡ 8320
   pub kept-within : r .kept ≤ r .size
   pub size-within : r .size + 5 ≤ length buffer

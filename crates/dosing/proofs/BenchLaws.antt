@@ -2,9 +2,9 @@
 use mathlib.Core.Path.{_≡_, refl, sym, _∙_, ap, ap₂, subst}
 use mathlib.Core.Bool.{true, false, false≢true}
 use mathlib.Core.List.{List, []}
-use Prim.Native.Nat.{ℕ, _+_, _-_, _*_, _≤_, _<_}
+use Prim.Native.Nat.{ℕ, _+_, _*_, _≤_, _<_}
 use native.Mathlib.Omega.{arith}
-use lib.ListN.{length, take, replicate}
+use lib.ListN.{length, take, replicate, length-replicate}
 use lib.Seq.{length-take-le}
 use borrow.Author.Tests.{le-leb, lt-leb}
 use Rattle.model.specs.Registers.{Delivery, Machine}
@@ -28,7 +28,7 @@ use Rattle.image.specs.declared.load.LoadOutcome.the-variants.{Refused, More, R
 use Rattle.loading.specs.View.{rules-of, as-loading, Starts}
 use Rattle.loading.specs.Record.{outcome-image}
 use Rattle.image.specs.Load.{as-outcome, Loaded-as}
-use Rattle.image.proofs.LoadLaws.{image-loaded, may-load, words-within, loaded-delivery, loaded-machine}
+use Rattle.image.proofs.LoadLaws.{image-loaded, may-load, words-within, loaded-delivery, loaded-full}
 use Rattle.calls.specs.declared.Called.{Called}
 use Rattle.calls.specs.Call.{Called-as}
 use Rattle.calls.proofs.CallLaws.{refuses, wrote}
@@ -71,7 +71,10 @@ pub ruleset answers = (not-prepared, no-room, lists, prepared-passes)
 
 -- A WHOLE IMAGE, loaded
 -- once RN has come, ME and ST have
-module _ (l : Loading) (v bs : List ℕ) (x : Loaded) (k : List ℕ) (w : Loaded-as l v bs true x k) (b : ℕ) (o : x .outcome ≡ Ready b) where
+module _ (l : Loading) (v bs : List ℕ) (x : Loaded) (k : List ℕ) (z : v ≡ replicate 8320 0) (w : Loaded-as l v bs true x k) (b : ℕ) (o : x .outcome ≡ Ready b) where
+  full : length k ≡ 8320
+  full = w .size-same ∙ ap length z ∙ length-replicate {A = ℕ} 8320 0
+
   ready-memory : x .loading .«has_memory» ≡ true
   ready-memory = (rw o at w .outcome-within) .1
 
@@ -79,13 +82,13 @@ module _ (l : Loading) (v bs : List ℕ) (x : Loaded) (k : List ℕ) (w : Loaded
   ready-registers = (rw o at w .outcome-within) .2
 
   pub ready-words : x .loading .words ≤ length k
-  ready-words = words-within (x .loading) k (w .within) ready-memory
+  ready-words = words-within (x .loading) k (w .within) full ready-memory
 
   pub ready-part : x .loading .words ≡ length (take (x .loading .words) k)
   ready-part = sym (length-take-le (x .loading .words) k ready-words)
 
   ready-machine : Image.machine-of (as-loading (x .loading) k) ≡ record { registers = registers-of (x .loading .registers); memory = take (x .loading .words) k }
-  ready-machine = loaded-machine (x .loading) k ready-memory ready-registers
+  ready-machine = loaded-full (x .loading) k full ready-memory ready-registers
 
 module _ (l : Loading) (v bs t : List ℕ) (x : Loaded) (k : List ℕ) (s : Starts false l) (z : v ≡ replicate 8320 0) (w : Loaded-as l v bs true x k) where
   starts-empty : as-loading l v ≡ Image.nothing-loaded Image.today
@@ -111,6 +114,6 @@ module _ (l : Loading) (v bs t : List ℕ) (x : Loaded) (k : List ℕ) (s : Star
   unfolding bench outcome-image
   image-listed b o y u =
       subst (λ (i : Image.Image). Called-as (bench-on i t) y u)
-      (sym (whole ∙ ap (λ o. outcome-image (as-outcome o) (as-loading (x .loading) k) bs []) o ∙ ap₂ (λ d m. checked d m b) (loaded-delivery (x .loading) k) (ready-machine l v bs x k w b o)))
+      (sym (whole ∙ ap (λ o. outcome-image (as-outcome o) (as-loading (x .loading) k) bs []) o ∙ ap₂ (λ d m. checked d m b) (loaded-delivery (x .loading) k) (ready-machine l v bs x k z w b o)))
 
 pub ruleset whole-image = (may-load, ready-words, ready-part, image-refused, no-more, image-listed)

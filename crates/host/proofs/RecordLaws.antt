@@ -16,47 +16,47 @@ use Rattle.state.specs.declared.Core.{Core}
 use Rattle.host.specs.Record.{machine-of, delivery-of, Converted}
 use Rattle.host.specs.declared.record.Registers as Record
 
--- 1 TO 4, the switch and its segments left out
-module _ (a : ℕ) (d : Dbr) (ipr : Pointer) (ps : List Pointer) (v : List ℕ) where
+-- 1 TO 4, the switch and its segments left out; of memory they ask its size alone
+module _ (a : ℕ) (d : Dbr) (ipr : Pointer) (ps : List Pointer) (v : List ℕ) (size : ℕ) (sized : length v ≡ size) where
   abbrev machine : Machine
   machine = record { registers = record { a = a; dbr = d; ipr = ipr; prs = ps }; memory = v }
 
-  pub answer-1 : 16777216 < length v → 1 ≡ start-questions no-delivery machine
+  pub answer-1 : 16777216 < size → 1 ≡ start-questions no-delivery machine
   unfolding start-questions memory-fits ask
-  answer-1 h = sym (rw (lt-leb _ _ h))
+  answer-1 h = sym (rw (sized, lt-leb _ _ h))
 
-  module _ (one : length v ≤ 16777216) (r : Bool) (q : r ≡ pointer-in-range ipr) where
+  module _ (one : size ≤ 16777216) (r : Bool) (q : r ≡ pointer-in-range ipr) where
     pub answer-2-ipr : not r ≡ true → 2 ≡ start-questions no-delivery machine
     unfolding start-questions memory-fits registers-in-range delivery-in-range ask
-    answer-2-ipr h = sym (rw (le-leb _ _ one, ← q, not-true r h))
+    answer-2-ipr h = sym (rw (sized, le-leb _ _ one, ← q, not-true r h))
 
     module _ (two : not r ≡ false) (s : Bool) (w : s ≡ all pointer-in-range ps) where
       pub answer-2-prs : not s ≡ true → 2 ≡ start-questions no-delivery machine
       unfolding start-questions memory-fits registers-in-range delivery-in-range ask
-      answer-2-prs h = sym (rw (le-leb _ _ one, ← q, not-false r two, ← w, not-true s h))
+      answer-2-prs h = sym (rw (sized, le-leb _ _ one, ← q, not-false r two, ← w, not-true s h))
 
       module _ (three : not s ≡ false) where
         pub answer-2-dbr : 16777215 < d .address → 2 ≡ start-questions no-delivery machine
         unfolding start-questions memory-fits registers-in-range delivery-in-range ask
-        answer-2-dbr h = sym (rw (le-leb _ _ one, ← q, not-false r two, ← w, not-false s three, lt-leb _ _ h))
+        answer-2-dbr h = sym (rw (sized, le-leb _ _ one, ← q, not-false r two, ← w, not-false s three, lt-leb _ _ h))
 
         module _ (four : d .address ≤ 16777215) (t : Bool) (x : t ≡ rings-at-least (ipr .ring) ps) where
           pub answer-3 : not t ≡ true → 3 ≡ start-questions no-delivery machine
           unfolding start-questions memory-fits registers-in-range delivery-in-range ask
-          answer-3 h = sym (rw (le-leb _ _ one, ← q, not-false r two, ← w, not-false s three, le-leb _ _ four, ← x, not-true t h))
+          answer-3 h = sym (rw (sized, le-leb _ _ one, ← q, not-false r two, ← w, not-false s three, le-leb _ _ four, ← x, not-true t h))
 
           module _ (five : not t ≡ false) where
             pub answer-4-too-long : 4096 < d .length → 4 ≡ start-questions no-delivery machine
             unfolding start-questions memory-fits registers-in-range delivery-in-range dbr-fits ask
-            answer-4-too-long h = sym (rw (le-leb _ _ one, ← q, not-false r two, ← w, not-false s three, le-leb _ _ four, ← x, not-false t five, lt-leb _ _ h))
+            answer-4-too-long h = sym (rw (sized, le-leb _ _ one, ← q, not-false r two, ← w, not-false s three, le-leb _ _ four, ← x, not-false t five, lt-leb _ _ h))
 
-            pub answer-4-past-end : d .length ≤ 4096 → length v < d .address + d .length → 4 ≡ start-questions no-delivery machine
+            pub answer-4-past-end : d .length ≤ 4096 → size < d .address + d .length → 4 ≡ start-questions no-delivery machine
             unfolding start-questions memory-fits registers-in-range delivery-in-range dbr-fits ask
-            answer-4-past-end g h = sym (rw (le-leb _ _ one, ← q, not-false r two, ← w, not-false s three, le-leb _ _ four, ← x, not-false t five, le-leb _ _ g, lt-leb _ _ h))
+            answer-4-past-end g h = sym (rw (sized, le-leb _ _ one, ← q, not-false r two, ← w, not-false s three, le-leb _ _ four, ← x, not-false t five, le-leb _ _ g, lt-leb _ _ h))
 
-            pub answer-yes : d .length ≤ 4096 → d .address + d .length ≤ length v → 0 ≡ start-questions no-delivery machine
+            pub answer-yes : d .length ≤ 4096 → d .address + d .length ≤ size → 0 ≡ start-questions no-delivery machine
             unfolding start-questions memory-fits registers-in-range delivery-in-range dbr-fits ask
-            answer-yes g h = sym (rw (le-leb _ _ one, ← q, not-false r two, ← w, not-false s three, le-leb _ _ four, ← x, not-false t five, le-leb _ _ g, le-leb _ _ h))
+            answer-yes g h = sym (rw (sized, le-leb _ _ one, ← q, not-false r two, ← w, not-false s three, le-leb _ _ four, ← x, not-false t five, le-leb _ _ g, le-leb _ _ h))
 
 pub ruleset start-answers = (answer-1, answer-2-ipr, answer-2-prs, answer-2-dbr, answer-3, answer-4-too-long, answer-4-past-end, answer-yes)
 
@@ -82,24 +82,24 @@ unfolding memory-fits ask
 refused-2 n h = sym (rw (le-leb _ _ h))
 
 -- THE CHECK'S: 1, 2 of the pointer and of the switch and its segments, then all that is asked without these
-module _ (v : Delivery) (p : Pointer) (m : Machine) where
-  pub check-1 : 16777216 < length (m .memory) → 1 ≡ check-questions v m p
+module _ (v : Delivery) (p : Pointer) (m : Machine) (size : ℕ) (sized : length (m .memory) ≡ size) where
+  pub check-1 : 16777216 < size → 1 ≡ check-questions v m p
   unfolding check-questions memory-fits ask
-  check-1 h = sym (rw (lt-leb _ _ h))
+  check-1 h = sym (rw (sized, lt-leb _ _ h))
 
-  module _ (one : length (m .memory) ≤ 16777216) (r : Bool) (q : r ≡ pointer-in-range p) where
+  module _ (one : size ≤ 16777216) (r : Bool) (q : r ≡ pointer-in-range p) where
     pub check-2-pointer : not r ≡ true → 2 ≡ check-questions v m p
     unfolding check-questions memory-fits ask
-    check-2-pointer h = sym (rw (le-leb _ _ one, ← q, not-true r h))
+    check-2-pointer h = sym (rw (sized, le-leb _ _ one, ← q, not-true r h))
 
     module _ (two : not r ≡ false) (k : Bool) (z : k ≡ delivery-in-range v) where
       asked-on : check-questions v m p ≡ start-questions v m
       unfolding check-questions memory-fits ask
-      asked-on = rw (le-leb _ _ one, ← q, not-false r two)
+      asked-on = rw (sized, le-leb _ _ one, ← q, not-false r two)
 
       pub check-2-delivery : not k ≡ true → 2 ≡ check-questions v m p
       unfolding memory-fits ask
-      check-2-delivery h = sym (asked-on ∙ delivery-answer v m (sym z ∙ not-true k h) ∙ rw (le-leb _ _ one) refl)
+      check-2-delivery h = sym (asked-on ∙ delivery-answer v m (sym z ∙ not-true k h) ∙ rw (sized, le-leb _ _ one) refl)
 
       pub check-rest : not k ≡ false → (n : ℕ) → n ≡ start-questions no-delivery m → n ≡ check-questions v m p
       check-rest h n e = e ∙ sym (same-start v no-delivery (sym z ∙ not-false k h) (unfold delivery-in-range in refl) m) ∙ sym asked-on

@@ -2,6 +2,7 @@
 use mathlib.Core.Path.{_≡_}
 use mathlib.Core.List.{List}
 use Prim.Native.Nat.{ℕ, _≤_}
+use lib.ListN.{length}
 use Rattle.model.specs.Words as Words
 use Rattle.model.specs.Registers as Registers
 use Rattle.host.specs.declared.record.DescriptorBase.{DescriptorBase}
@@ -38,3 +39,7 @@ pub record In-record (c : Core) : Type 0 where
 pub record Converted (r : Record.Registers) (c : Core) : Type 0 where
   pub same : registers-with c (as-pointers (r .prs)) ≡ registers-of r
   pub fits : In-record c
+
+-- questions that look at memory's size alone: their answer, for any memory of that size
+abbrev pub Answers-any : (answer size : ℕ) → (asked : (memory : List ℕ) → ℕ) → Type 0
+Answers-any n s f = (m : List ℕ) → length m ≡ s → n ≡ f m

@@ -10,7 +10,7 @@ ghost use Rattle.model.specs.Questions as Questions;
 ghost use Rattle.model.specs.Check as Check;
 ghost use Rattle.words.specs.View.{as-pointer};
 ghost use Rattle.state.specs.View.{as-pointers, as-machine, as-delivery, pr-of};
-ghost use Rattle.host.specs.Record.{machine-of, delivery-of};
+ghost use Rattle.host.specs.Record.{machine-of, delivery-of, Answers-any};
 ghost use Rattle.host.specs.Rings.{packed-rings, Joined, ones, eights};
 use crate::record::Registers;
 use state::Core;
@@ -137,18 +137,12 @@ pub fn start_answer(core: Core, prs: &[u16; 24], memory: &[u64]) -> u8
     0
 }
 
-// The same with 2 of the switch and its segments, and of a pointer handed in. It is not made of `start_answer`: that has one
-// caller, so that the compiler merges it into the loop of a run.
-pub fn check_answer(
-    delivery: Delivery,
-    p: Pointer,
-    core: Core,
-    prs: &[u16; 24],
-    memory: &[u64],
-) -> u8
-    ensures { λ n. ⌜ n ≡ Check.check-questions (as-delivery delivery) (as-machine core (now (prs .entry)) (now (memory .entry))) (as-pointer p) ⌝ }
+// The same with 2 of the switch and its segments, and of a pointer handed in, for any memory of that size. It is not made of
+// `start_answer`: that has one caller, so that the compiler merges it into the loop of a run.
+pub fn size_answer(delivery: Delivery, p: Pointer, core: Core, prs: &[u16; 24], size: usize) -> u8
+    ensures { λ n. ⌜ Answers-any n size (λ m. Check.check-questions (as-delivery delivery) (as-machine core (now (prs .entry)) m) (as-pointer p)) ⌝ }
 {
-    if 16777216 < memory.len() {
+    if 16777216 < size {
         return 1;
     }
     if !is_in_range(p) {
@@ -172,15 +166,28 @@ pub fn check_answer(
     if 4096 < core.dbr.length {
         return 4;
     }
-    if memory.len() < core.dbr.address as usize + core.dbr.length as usize {
+    if size < core.dbr.address as usize + core.dbr.length as usize {
         return 4;
     }
     0
 }
 
-// 1 to 4 of a record: any pointer in range adds nothing to what is asked.
-pub fn record_answer(registers: Registers, memory: &[u64]) -> u8
-    ensures { λ n. ⌜ n ≡ Questions.start-questions (delivery-of registers) (machine-of registers (now (memory .entry))) ⌝ }
+// The same of a memory.
+pub fn check_answer(
+    delivery: Delivery,
+    p: Pointer,
+    core: Core,
+    prs: &[u16; 24],
+    memory: &[u64],
+) -> u8
+    ensures { λ n. ⌜ n ≡ Check.check-questions (as-delivery delivery) (as-machine core (now (prs .entry)) (now (memory .entry))) (as-pointer p) ⌝ }
+{
+    size_answer(delivery, p, core, prs, memory.len())
+}
+
+// 1 to 4 of a record, for any memory of that size: any pointer in range adds nothing to what is asked.
+pub fn record_size_answer(registers: Registers, size: usize) -> u8
+    ensures { λ n. ⌜ Answers-any n size (λ m. Questions.start-questions (delivery-of registers) (machine-of registers m)) ⌝ }
 {
     let core = crate::record::core_of(registers);
     let prs = registers.prs;
@@ -189,5 +196,12 @@ pub fn record_answer(registers: Registers, memory: &[u64]) -> u8
         segment: SegmentNumber(0),
         word: WordNumber(0),
     };
-    check_answer(registers.delivery, p, core, &prs, memory)
+    size_answer(registers.delivery, p, core, &prs, size)
+}
+
+// 1 to 4 of a record and a memory.
+pub fn record_answer(registers: Registers, memory: &[u64]) -> u8
+    ensures { λ n. ⌜ n ≡ Questions.start-questions (delivery-of registers) (machine-of registers (now (memory .entry))) ⌝ }
+{
+    record_size_answer(registers, memory.len())
 }

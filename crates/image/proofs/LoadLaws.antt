@@ -7,7 +7,7 @@ use Prim.Native.Nat.{ℕ, zero, suc, _+_, _-_, _^_, _≤_, _<_}
 use native.Mathlib.Omega.{arith}
 use lib.Dec.{eqb}
 use lib.ListN.{length, getD, take, drop, replicate, length-drop}
-use borrow.Author.Tests.{eqb-true}
+use borrow.Author.Tests.{eqb-true, le-leb}
 use mir.Syntax.{w64}
 use mir.Val.{Fits}
 use Rattle.model.proofs.BranchLaws.{and-left, and-right}
@@ -20,9 +20,10 @@ use Rattle.loading.specs.declared.Loading.{Loading}
 use Rattle.loading.specs.declared.Outcome.{Outcome}
 use Rattle.loading.specs.declared.Outcome.the-variants.{Refused, Waits, Next, Ready}
 use Rattle.image.specs.declared.load.LoadOutcome.the-variants as Load
-use Rattle.loading.specs.View.{as-loading, Loading-within, Memory-within, Starts}
-use Rattle.loading.specs.Record.{outcome-image, Goes, Outcome-within, Kept, Recorded-as, Recorded-in-store}
+use Rattle.loading.specs.View.{keeps-words, memory-in, as-loading, Loading-within, Memory-within, Starts, Starts-sizing}
+use Rattle.loading.specs.Record.{outcome-image, Goes, Outcome-within, Kept, Word-taken, Recorded-as}
 use Rattle.loading.specs.declared.Recorded.{Recorded}
+use Rattle.loading.proofs.RecordLaws.{within-now, goes-next}
 use Rattle.image.specs.Load.{Loaded-so-far, Word-if, Word-loaded, Words-loaded, Loaded-as}
 
 pub no-record-yet : (l : Loading) (m bs : List ℕ) (e : Bool) → Loading-within l m → Loaded-so-far l m bs e 0 l m
@@ -42,12 +43,15 @@ module _ {l : Loading} {m bs : List ℕ} {e : Bool} {at : ℕ} {k : Loading} {m-
   unfolding Goes outcome-image
   both rest f = i .goes rest f ∙ (rw (from-is-drop at bs) at (r .goes)) rest f
 
+  long : length m-next ≡ length m
+  long = r .size-same ∙ i .same-length
+
   left : length (from at bs) ≡ length bs - at
   left = ap length (from-is-drop at bs) ∙ length-drop at bs
 
   pub last-refused : (n : ℕ) → o ≡ Refused n → Loaded-as l m bs e (record { loading = j; outcome = Load.Refused n }) m-next
   unfolding Goes outcome-image Outcome-within
-  last-refused n q = record { within = r .within; goes = λ rest f. both rest f ∙ rw q; outcome-within = rw q at (r .outcome-within) }
+  last-refused n q = record { size-same = long; within = r .within; goes = λ rest f. both rest f ∙ rw q; outcome-within = rw q at (r .outcome-within) }
 
   pub last-waits : o ≡ Waits → Loaded-as l m bs e (record { loading = j; outcome = Load.More at }) m-next
   unfolding Goes outcome-image Outcome-within
@@ -55,11 +59,11 @@ module _ {l : Loading} {m bs : List ℕ} {e : Bool} {at : ℕ} {k : Loading} {m-
       let w = rw q at (r .outcome-within) in
       let z = left in
       let h = i .in-bytes in
-      record { within = r .within; goes = λ rest f. both rest f ∙ rw q; outcome-within = (w .0, h, let y = w .1 in omega arith) }
+      record { size-same = long; within = r .within; goes = λ rest f. both rest f ∙ rw q; outcome-within = (w .0, h, let y = w .1 in omega arith) }
 
   pub last-ready : (b : ℕ) → o ≡ Ready b → Loaded-as l m bs e (record { loading = j; outcome = Load.Ready b }) m-next
   unfolding Goes outcome-image Outcome-within
-  last-ready b q = record { within = r .within; goes = λ rest f. both rest f ∙ rw q; outcome-within = rw q at (r .outcome-within) }
+  last-ready b q = record { size-same = long; within = r .within; goes = λ rest f. both rest f ∙ rw q; outcome-within = rw q at (r .outcome-within) }
 
   module _ {s : ℕ} (q : o ≡ Next s) where
     pub next-in-bytes : at + s ≤ length bs
@@ -75,7 +79,7 @@ module _ {l : Loading} {m bs : List ℕ} {e : Bool} {at : ℕ} {k : Loading} {m-
     one-more =
         record {
           in-bytes = next-in-bytes;
-          same-length = r .within .sized ∙ sym (i .within .sized) ∙ i .same-length;
+          same-length = long;
           within = r .within;
           goes = λ rest f. both rest f ∙ rw q (ap (λ xs. image-after (as-loading j m-next) (xs ++ rest)) (drop-drop s at bs));
         }
@@ -159,45 +163,29 @@ module _ (l : Loading) (m bs : List ℕ) where
   unfolding Goes outcome-image
   no-word h = record { in-bytes = omega arith; same-length = refl; within = h; goes = λ e rest _. refl; some-bytes = λ f. absurd (f refl); none-same = λ _. refl }
 
-  module _ (x : Recorded) (m-now : List ℕ) (r : Recorded-in-store l m bs x m-now) (h : Loading-within l m) where
-    kept : (o : Outcome) → x .outcome ≡ o → Kept o l (x .loading) m m-now
-    kept o q = subst (λ a. Kept a l (x .loading) m m-now) q (r .recorded true .kept)
+  module _ (n : ℕ) (m-now : List ℕ) (w : Word-taken (l .«is_stored») (l .«has_memory») (l .words) m bs n m-now) (h : Loading-within l m) where
+    pub word-refused : (n ≡ 0 → ⊥) → Word-loaded l m bs 0 m-now
+    word-refused f = subst (Word-loaded l m bs 0) (sym (w .kept f)) (no-word h)
 
-    nothing : m-now ≡ m → Word-loaded l m bs 0 m-now
-    nothing e = subst (Word-loaded l m bs 0) (sym e) (no-word h)
-
-    pub word-refused : (k : ℕ) → x .outcome ≡ Refused k → Word-loaded l m bs 0 m-now
-    word-refused k q = nothing (kept (Refused k) q .1)
-
-    pub word-waits : x .outcome ≡ Waits → Word-loaded l m bs 0 m-now
-    word-waits q = nothing (kept Waits q .1)
-
-    pub word-ready : (b : ℕ) → x .outcome ≡ Ready b → Word-loaded l m bs 0 m-now
-    word-ready b q = nothing (kept (Ready b) q .1)
-
-    pub word-next : (s : ℕ) → x .outcome ≡ Next s → Word-loaded l m bs s m-now
-    unfolding Outcome-within
-    word-next s q =
+    pub word-next : n ≡ 0 → 14 ≤ length bs → Word-loaded l m bs 14 m-now
+    word-next z g =
         record {
-          in-bytes = (rw q at (r .recorded true .outcome-within)) .1;
-          some-bytes = λ _. (rw q at (r .recorded true .outcome-within)) .0;
-          none-same = λ f. absurd (let h = (rw q at (r .recorded true .outcome-within)) .0 in omega arith);
-          same-length = within-now .sized ∙ sym (h .sized);
-          within = within-now;
-          goes = λ e. subst (λ k. Goes (as-loading l m) bs e (Next s) (as-loading k m-now)) (r .loading-same) (subst (λ o. Goes (as-loading l m) bs e o (as-loading (x .loading) m-now)) q (r .recorded e .goes));
+          in-bytes = g;
+          some-bytes = λ _. omega arith;
+          none-same = λ f. absurd (omega arith);
+          same-length = w .size-same;
+          within = within-now l m bs n m-now w h;
+          goes = goes-next l m bs n m-now w h z;
         }
-      where
-        within-now : Loading-within l m-now
-        within-now = subst (λ k. Loading-within k m-now) (r .loading-same) (r .recorded true .within)
 
-pub ruleset fronts = (word-in-front, front-marked, front-whole, no-word, word-refused, word-waits, word-ready, word-next)
+pub ruleset fronts = (word-in-front, front-marked, front-whole, no-word, word-refused, word-next)
 
 -- as a record of all their bytes, or else the next record
 module _ (l : Loading) (m bs : List ℕ) (e : Bool) (n : ℕ) (m-now : List ℕ) (w : Words-loaded l m bs n m-now) where
   pub words-as-one : (n ≡ 0 → ⊥) → Recorded-as l m bs e (record { loading = l; outcome = Next n }) m-now
   unfolding Outcome-within
   words-as-one f =
-      record { within = w .so-far e .within; goes = w .so-far e .goes; outcome-within = (w .some-bytes f, w .so-far e .in-bytes); kept = tt }
+      record { size-same = w .so-far e .same-length; within = w .so-far e .within; goes = w .so-far e .goes; outcome-within = (w .some-bytes f, w .so-far e .in-bytes); kept = tt }
 
   pub no-words : n ≡ 0 → (x : Recorded) (m-next : List ℕ) → Recorded-as l m-now bs e x m-next → Recorded-as l m bs e x m-next
   no-words f x m-next = subst (λ v. Recorded-as l v bs e x m-next) (w .none-same f)
@@ -205,19 +193,32 @@ module _ (l : Loading) (m bs : List ℕ) (e : Bool) (n : ℕ) (m-now : List ℕ)
 pub ruleset nexts = (words-as-one, no-words)
 
 -- a whole image, from nothing
+pub whole-loaded : (v : Image.Rules) (l : Image.Loading) (bs : List ℕ) (o : Outcome) (k : Image.Loading) → l ≡ Image.nothing-loaded v → Goes l bs true o k →
+    image-after (Image.nothing-loaded v) bs ≡ outcome-image o k bs []
+unfolding Goes
+whole-loaded v l bs o k e h = sym (ap₂ image-after e (append-nil bs)) ∙ h [] (λ _. refl)
+
 pub image-loaded : (l : Image.Loading) (bs : List ℕ) (o : Outcome) (k : Image.Loading) → l ≡ Image.nothing-loaded Image.today → Goes l bs true o k → Image.image bs ≡ outcome-image o k bs []
-unfolding Goes Image.image
-image-loaded l bs o k e h = sym (ap₂ image-after e (append-nil bs)) ∙ h [] (λ _. refl)
+unfolding Image.image
+image-loaded l bs o k e h = whole-loaded Image.today l bs o k e h
 
 -- a store of zeros may be lent before the first record
 pub may-load : (v : Bool) (l : Loading) (m : List ℕ) → Starts v l → m ≡ replicate 8320 0 → Loading-within l m
 unfolding Starts
 may-load v l m s z = s m z .0
 
+pub may-size : (l : Loading) (m : List ℕ) → Starts-sizing false l → m ≡ replicate 128 0 → Loading-within l m
+unfolding Starts-sizing
+may-size l m s z = s refl m z .0
+
 -- once ME has come, the image's memory is the front of what is lent
-pub words-within : (l : Loading) (m : List ℕ) → Loading-within l m → l .«has_memory» ≡ true → l .words ≤ length m
+pub words-within : (l : Loading) (m : List ℕ) → Loading-within l m → length m ≡ 8320 → l .«has_memory» ≡ true → l .words ≤ length m
 unfolding Memory-within
-words-within l m w h = let q = rw h at w .memory-within in omega (arith, w .sized)
+words-within l m w full h = let q = rw h at w .memory-within in omega arith
+
+pub memory-is-front : (n : ℕ) (m : List ℕ) → length m ≡ 8320 → memory-in n m ≡ take n m
+unfolding memory-in keeps-words
+memory-is-front n m full = rw (le-leb 8320 (length m) (omega arith)) refl
 
 -- what faults do is loaded with the registers
 pub loaded-delivery : (l : Loading) (m : List ℕ) → as-loading l m .delivery ≡ delivery-of (l .registers)
@@ -226,8 +227,13 @@ loaded-delivery l m = refl
 
 -- once ME and ST have come, what is loaded is a machine
 pub loaded-machine : (l : Loading) (m : List ℕ) → l .«has_memory» ≡ true → l .«has_registers» ≡ true →
-    Image.machine-of (as-loading l m) ≡ record { registers = registers-of (l .registers); memory = take (l .words) m }
+    Image.machine-of (as-loading l m) ≡ record { registers = registers-of (l .registers); memory = memory-in (l .words) m }
 unfolding Image.machine-of Image.memory-of Image.or-else as-loading machine
 loaded-machine l m h g = rw (h, g) refl
+
+pub loaded-full : (l : Loading) (m : List ℕ) → length m ≡ 8320 → l .«has_memory» ≡ true → l .«has_registers» ≡ true →
+    Image.machine-of (as-loading l m) ≡ record { registers = registers-of (l .registers); memory = take (l .words) m }
+loaded-full l m full h g =
+    loaded-machine l m h g ∙ ap (λ ws. record { registers = registers-of (l .registers); memory = ws }) (memory-is-front (l .words) m full)
 
 pub ruleset loads = (no-record-yet, last-refused, last-waits, last-ready, one-more)

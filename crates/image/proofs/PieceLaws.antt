@@ -39,6 +39,7 @@ module _ (l : Loading) (m t : List ℕ) (n : ℕ) (e : Bool) (x : Loaded) (m-now
   unfolding Goes Piece-goes
   settled a u o same bounds =
       record {
+        size-same = w .size-same;
         within = w .within;
         goes =
             λ rest z. w .goes rest z ∙ ap (λ b. outcome-image (as-outcome b) (as-loading (x .loading) m-now) (take n t) rest) o ∙ same rest
@@ -60,6 +61,7 @@ module _ (l : Loading) (m t : List ℕ) (n : ℕ) (e : Bool) (x : Loaded) (m-now
   unfolding Goes Piece-goes outcome-image piece-image
   piece-kept used u o k =
       record {
+        size-same = w .size-same;
         within = w .within;
         goes =
             λ rest z. w .goes rest z ∙ ap (λ b. outcome-image (as-outcome b) (as-loading (x .loading) m-now) (take n t) rest) o
@@ -86,7 +88,7 @@ module _ (l : Loading) (m piece : List ℕ) (e : Bool) (x : Loaded) (m-now u : L
   pub kept-few : (n : ℕ) → x .outcome ≡ More n → n < 66
   kept-few n o = subst (Piece-within e (x .loading)) o (w .outcome-within) .1
 
-  pub piece-words : (b : ℕ) → x .outcome ≡ Ready b → x .loading .words ≤ length m-now
-  piece-words b o = words-within (x .loading) m-now (w .within) (subst (Piece-within e (x .loading)) o (w .outcome-within) .1)
+  pub piece-words : (b : ℕ) → x .outcome ≡ Ready b → length m-now ≡ 8320 → x .loading .words ≤ length m-now
+  piece-words b o full = words-within (x .loading) m-now (w .within) full (subst (Piece-within e (x .loading)) o (w .outcome-within) .1)
 
 pub ruleset read-pieces = (piece-within, kept-few, piece-words)

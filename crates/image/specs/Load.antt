@@ -55,6 +55,7 @@ Load-outcome-within bs e l (More used) = (e ≡ false) × (used ≤ length bs) �
 Load-outcome-within bs e l (Ready budget) = (e ≡ true) × (l .«has_memory» ≡ true) × (l .«has_registers» ≡ true)
 
 pub record Loaded-as (l : Loading) (m bs : List ℕ) (e : Bool) (x : Loaded) (m-now : List ℕ) : Type 0 where
+  pub size-same : length m-now ≡ length m
   pub within : Loading-within (x .loading) m-now
   pub goes : Goes (as-loading l m) bs e (as-outcome (x .outcome)) (as-loading (x .loading) m-now)
   pub outcome-within : Load-outcome-within bs e (x .loading) (x .outcome)

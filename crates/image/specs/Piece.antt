@@ -3,7 +3,7 @@ use mathlib.Core.Path.{_≡_}
 use mathlib.Core.Bool.{Bool, true, false}
 use mathlib.Core.List.{List, [], _++_}
 use Prim.Native.Nat.{ℕ, _≤_, _<_}
-use lib.ListN.{take}
+use lib.ListN.{length, take}
 use Rattle.model.specs.Image as Image
 use Rattle.loading.specs.declared.Loading.{Loading}
 use Rattle.image.specs.declared.load.LoadOutcome.{LoadOutcome}
@@ -27,6 +27,7 @@ Piece-within e l (More kept) = (e ≡ false) × (kept < 66)
 Piece-within e l (Ready budget) = (e ≡ true) × (l .«has_memory» ≡ true) × (l .«has_registers» ≡ true)
 
 pub record Piece-loaded (l : Loading) (m piece : List ℕ) (e : Bool) (x : Loaded) (m-now buffer-now : List ℕ) : Type 0 where
+  pub size-same : length m-now ≡ length m
   pub within : Loading-within (x .loading) m-now
   pub goes : Piece-goes (as-loading l m) piece e (x .outcome) (as-loading (x .loading) m-now) buffer-now
   pub outcome-within : Piece-within e (x .loading) (x .outcome)

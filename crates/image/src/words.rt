@@ -23,14 +23,17 @@ fn load_front(loading: Loading, store: &mut [u64], bytes: &[u8]) -> usize
     if !is_word(bytes) {
         return 0;
     }
-    let x = loading::word::load_word(loading, store, bytes);
-    let outcome = x.outcome;
-    match outcome {
-        Outcome::Refused(_n) => 0,
-        Outcome::Waits => 0,
-        Outcome::Next(size) => size,
-        Outcome::Ready(_budget) => 0,
+    let n = loading::word::take_word(
+        loading.is_stored,
+        loading.has_memory,
+        loading.words,
+        store,
+        bytes,
+    );
+    if n != 0 {
+        return 0;
     }
+    14
 }
 
 // So many bytes were WD records, and were loaded.

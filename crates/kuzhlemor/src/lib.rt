@@ -1,5 +1,5 @@
 // The C library: a run and a step over a register record and a memory that the host lends, CALL's check over ones that are only read,
-// an image run whole, a stored one converted, a table for who may do what, and descriptors of the old benches.
+// an image run whole, a stored one converted, a table for who may do what, descriptors of the old benches, and an image's needs.
 ghost use mathlib.Core.Path.{_≡_};
 ghost use Rattle.model.specs.Answers.{check-numbers};
 ghost use Rattle.model.specs.Check.{check};
@@ -7,9 +7,11 @@ ghost use Rattle.model.specs.Bench as Bench;
 ghost use Rattle.model.specs.Convert.{convert-call};
 ghost use Rattle.model.specs.Brackets.{set-brackets};
 ghost use Rattle.model.specs.Old.{from-old, to-old, convert-words};
+ghost use Rattle.model.specs.Needs.{image-needs};
 ghost use Rattle.host.specs.Record.{machine-of, delivery-of};
 ghost use Rattle.checks.specs.View.{as-numbers};
 ghost use Rattle.old.specs.View.{as-answer};
+ghost use Rattle.sizing.specs.View.{as-needs};
 ghost use Rattle.tables.specs.View.{as-rows, base};
 ghost use Rattle.kuzhlemor.specs.Entry.{Run-says, Step-says};
 use checks::Check;
@@ -92,4 +94,12 @@ pub extern "C" fn kuzhlemor_to_old(words: &mut [u64]) -> old::Answer
     ensures { λ x. ⌜ (as-answer x ≡ convert-words to-old (now (words .entry)) .answer) × (now (words .exit) ≡ convert-words to-old (now (words .entry)) .words) ⌝ }
 {
     old::convert_words(words, true)
+}
+
+// What an image will need, worked out from its records: the number of the question with a no, or 0 and the five figures.
+#[no_mangle]
+pub extern "C" fn kuzhlemor_needs(image: &[u8]) -> sizing::Needs
+    ensures { λ x. ⌜ as-needs x ≡ image-needs (now (image .entry)) ⌝ }
+{
+    sizing::needs_in(image)
 }

@@ -1,17 +1,17 @@
 -- 51, and the set at the end of the store. Assumes nothing.
 use mathlib.Core.Path.{_≡_, refl, sym, _∙_, ap, fun-ext}
-use mathlib.Core.Bool.{Bool, true, false, _||_, not, true≢false, false≢true}
+use mathlib.Core.Bool.{Bool, true, false, _||_, true≢false, false≢true}
 use mathlib.Core.List.{List, _++_, append-nil}
-use Prim.Native.Nat.{ℕ, _+_, _-_, _/_, _%_, _^_, _≤_, _<_}
+use Prim.Native.Nat.{ℕ, _-_, _≤_}
 use native.Mathlib.Omega.{arith}
 use lib.Dec.{eqb}
-use lib.ListN.{length, getD, take, drop, replicate, length-append, length-drop, drop-of-length-le}
+use lib.ListN.{length, take, drop, length-drop, drop-of-length-le}
 use lib.Seq.{length-take-le, take-all, take-at, drop-at}
 use borrow.Rule.Slice.PartMut.{putMid, same-len-mid}
 use Rattle.model.specs.Image as Image
 use Rattle.model.specs.Image.{unless-written, with-written}
 use Rattle.addresses.specs.Set.{in-set, Put-in}
-use Rattle.loading.specs.View.{rules-of}
+use Rattle.loading.specs.View.{rules-of, set-in}
 use Rattle.loading.specs.Record.{Asked-51}
 
 -- A PART put back at a list's end
@@ -31,14 +31,22 @@ module _ (v : Bool) (a : ℕ) (m : List ℕ) where
       record { answered = rw e refl; memory-same = refl; size-same = refl; set-now = λ _. rw e refl; kept = λ f. absurd (true≢false f) }
 
   -- the end of the store, as a part of it
-  abbrev the-set : List ℕ
-  the-set = take (length m - 8192) (drop 8192 m)
+  abbrev at : ℕ
+  at = length m - 128
 
-  set-is-end : the-set ≡ drop 8192 m
-  set-is-end = take-all (length m - 8192) (drop 8192 m) (let z = length-drop 8192 m in omega arith)
+  abbrev the-set : List ℕ
+  the-set = take (length m - at) (drop at m)
+
+  set-is-end : the-set ≡ set-in m
+  unfolding set-in
+  set-is-end = take-all (length m - at) (drop at m) (let z = length-drop at m in omega arith)
+
+  pub set-size : 128 ≤ length m → length the-set ≡ 128
+  unfolding set-in
+  set-size h = ap length set-is-end ∙ length-drop at m ∙ omega arith
 
   module _ (e : v ≡ false) (r : Bool) (is : r ≡ in-set the-set a) where
-    found : in-set (drop 8192 m) a ≡ r
+    found : in-set (set-in m) a ≡ r
     found = ap (λ s. in-set s a) (sym set-is-end) ∙ sym is
 
     pub written-before : r ≡ true → Asked-51 (rules-of v) a m false m
@@ -46,22 +54,27 @@ module _ (v : Bool) (a : ℕ) (m : List ℕ) where
     written-before w =
         record { answered = rw (e, found, w) refl; memory-same = refl; size-same = refl; set-now = λ f. absurd (false≢true f); kept = λ _. refl }
 
-    module _ (w : r ≡ false) (l : length m ≡ 8320) (s : List ℕ) (p : Put-in a the-set s) where
-      long-enough : 8192 ≤ length m
-      long-enough = omega arith
-
-      now-in : in-set s ≡ (λ b. eqb a b || in-set (drop 8192 m) b)
+    module _ (w : r ≡ false) (s : List ℕ) (p : Put-in a the-set s) where
+      now-in : in-set s ≡ (λ b. eqb a b || in-set (set-in m) b)
       now-in = fun-ext (λ b. p .members b ∙ ap (λ t. eqb a b || in-set t b) set-is-end)
 
-      pub new-put : Asked-51 (rules-of v) a m true (putMid 8192 (length m - 8192) m s)
+      length-put : length (putMid at (length m - at) m s) ≡ length m
+      length-put = same-len-mid at (length m - at) m s (p .size-same)
+
+      set-put : set-in (putMid at (length m - at) m s) ≡ s
+      unfolding set-in
+      set-put =
+          ap (λ n. drop (n - 128) (putMid at (length m - at) m s)) length-put ∙ end-of-put at m s (omega arith)
+
+      pub new-put : Asked-51 (rules-of v) a m true (putMid at (length m - at) m s)
       unfolding rules-of unless-written with-written
       new-put =
           record {
             answered = rw (e, found, w) refl;
-            memory-same = front-of-put 8192 m s long-enough;
-            size-same = same-len-mid 8192 (length m - 8192) m s (p .size-same);
-            set-now = λ _. ap in-set (end-of-put 8192 m s long-enough) ∙ now-in ∙ rw e refl;
+            memory-same = front-of-put at m s (omega arith);
+            size-same = length-put;
+            set-now = λ _. ap in-set set-put ∙ now-in ∙ rw e refl;
             kept = λ f. absurd (true≢false f);
           }
 
-pub ruleset asks-51 = (stored-asks-nothing, written-before, new-put)
+pub ruleset asks-51 = (stored-asks-nothing, set-size, written-before, new-put)

@@ -1,7 +1,7 @@
 // What the records so far gave, and what comes of one record.
 ghost use mathlib.Core.Path.{_≡_};
 ghost use lib.ListN.{length, replicate};
-ghost use Rattle.loading.specs.View.{Starts};
+ghost use Rattle.loading.specs.View.{Starts, Starts-sizing};
 use host::record::DescriptorBase;
 use host::record::Pointer;
 use host::record::Registers;
@@ -10,7 +10,8 @@ use state::Delivery;
 pub mod word;
 
 // The store is lent beside this: 8,192 words, of which the first `words`, ME's number, are the image's memory, and after them 128
-// words that are the set of the addresses that a WD has had. `is_stored`: by the rules of stored images.
+// words that are the set of the addresses that a WD has had; for an image's needs the set alone. `is_stored`: by the rules of
+// stored images.
 pub struct Loading {
     pub is_stored: bool,
     pub has_memory: bool,
@@ -37,7 +38,7 @@ pub struct Recorded {
 
 // Before the first record; what is lent is zeros.
 pub fn nothing_loaded(is_stored: bool) -> Loading
-    ensures { λ x. ⌜ Starts «is_stored» x ⌝ }
+    ensures { λ x. ⌜ Starts «is_stored» x × Starts-sizing «is_stored» x ⌝ }
 {
     let zero = Pointer {
         ring: 0,
@@ -71,4 +72,11 @@ pub fn empty_store() -> [u64; 8320]
     ensures { λ r. ⌜ (r ≡ replicate 8320 0) × (8320 ≡ length r) ⌝ }
 {
     [0; 8320]
+}
+
+// For an image's needs.
+pub fn empty_set() -> [u64; 128]
+    ensures { λ r. ⌜ (r ≡ replicate 128 0) × (128 ≡ length r) ⌝ }
+{
+    [0; 128]
 }

@@ -150,5 +150,9 @@ readings-hold =
       gates-past-the-end-are-no-door = refl;
       gate-without-an-extension-is-no-door = refl;
       refused-image-has-no-doors = refl;
+      needs-of-three-words = refl;
+      needs-of-no-steps = refl;
+      needs-of-a-second-WD-are-51 = refl;
+      needs-past-the-end-are-4 = refl;
       offset-goes-round = refl;
     }

@@ -12,7 +12,7 @@ use borrow.Author.Tests.{leb-true, le-leb}
 use Rattle.model.specs.Registers.{Delivery, Machine}
 use Rattle.model.specs.Questions.{start-questions}
 use Rattle.model.specs.Run.{unless-refused}
-use Rattle.model.specs.Image.{Rules, stored, today, Mark, ME, ST, WD, RN, marked, mark-of, start-size, record-size, big-endian, number-at, pointer-at, pointers-at, registers-at, delivery-at, Loading, memory-allowed, address-allowed, address-new, record-questions, with-record, Image, refused-image, loaded, checked, record-on, whole-record-on, marked-on, bytes-on, image-from, image-after}
+use Rattle.model.specs.Image.{Rules, stored, today, sizing, Mark, ME, ST, WD, RN, marked, mark-of, start-size, record-size, big-endian, number-at, pointer-at, pointers-at, registers-at, delivery-at, Loading, memory-allowed, address-allowed, address-new, record-questions, with-record, Image, refused-image, loaded, checked, record-on, whole-record-on, marked-on, bytes-on, image-from, image-after}
 use Rattle.model.specs.Records.{Image-is-records, Image-needs-rn}
 use Rattle.model.proofs.BranchLaws.{cond-rel}
 
@@ -21,6 +21,7 @@ start-has-registers : (v : Rules) → 61 ≤ start-size v
 unfolding start-size
 start-has-registers stored = omega arith
 start-has-registers today = omega arith
+start-has-registers sizing = omega arith
 
 pub record-has-a-number : (v : Rules) (k : Mark) → 6 ≤ record-size v k
 unfolding record-size
@@ -111,6 +112,7 @@ module _ (one rest : List ℕ) where
   unfolding delivery-at start-size
   delivery-at-front stored h = refl
   delivery-at-front today h = rw (number-at-front 61 1 (omega arith), number-at-front 62 2 (omega arith), number-at-front 64 2 (omega arith))
+  delivery-at-front sizing h = rw (number-at-front 61 1 (omega arith), number-at-front 62 2 (omega arith), number-at-front 64 2 (omega arith))
 
   record-on-front : (k : Mark) (l : Loading) (f : Loading → Image) → record-size (l .rules) k ≤ length one →
       record-on k l (one ++ rest) f ≡ record-on k l one f

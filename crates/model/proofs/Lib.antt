@@ -37,5 +37,7 @@ pub mod OldLaws
 pub mod ListingLaws
 pub mod TickLaws
 pub mod CountedLaws
+pub mod NeedsLaws
+pub mod NeededLaws
 pub mod Computing
 pub mod CasesHold

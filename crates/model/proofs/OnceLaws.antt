@@ -11,7 +11,7 @@ use lib.Seq.{drop-append-add}
 use borrow.Author.Tests.{not-true, eqb-true, ltb-true, leb-true, lt-leb, eq-eqb, ne-eqb}
 use Rattle.model.specs.Registers.{Delivery, no-delivery, Machine}
 use Rattle.model.specs.Questions.{ask}
-use Rattle.model.specs.Image.{stored, today, Mark, ME, ST, WD, RN, mark-of, start-size, record-size, number-at, big-endian, delivery-at, Loading, has, memory-of, or-else, machine-of, in-order, memory-allowed, address-allowed, unless-written, address-new, record-questions, with-written, with-word, with-record, Image, loaded, record-on, image-after}
+use Rattle.model.specs.Image.{stored, today, Mark, ME, ST, WD, RN, mark-of, start-size, record-size, number-at, big-endian, delivery-at, Loading, has, memory-of, or-else, machine-of, in-order, memory-allowed, address-allowed, unless-written, address-new, record-questions, with-written, words-with, with-word, with-record, Image, loaded, record-on, image-after}
 use Rattle.model.specs.Convert.{size-by, front-size, joined, is-word, writes, some-writes, superseded, added, renewed}
 use Rattle.model.specs.Converted.{One-an-address}
 use Rattle.model.proofs.BranchLaws.{or-left, or-right, or-none}
@@ -130,8 +130,8 @@ module _ (l : Loading) (v : l .rules ≡ today) (fits : length (memory-of l) ≤
     memory-fits-still n z = subst (λ c. c ≤ 8192) (sym (length-replicate (number-at 2 4 x) 0)) (leb-true (number-at 2 4 x) 8192 (allowed ME l n x z .0))
 
     word-fits-still : length (memory-of (with-record WD l x)) ≤ 8192
-    unfolding with-record with-word memory-of or-else
-    word-fits-still = subst (λ c. c ≤ 8192) (sym (length-set (memory-of l) (number-at 2 4 x) (number-at 6 8 x))) fits
+    unfolding with-record with-word words-with memory-of or-else
+    word-fits-still = rw v (subst (λ c. c ≤ 8192) (sym (length-set (memory-of l) (number-at 2 4 x) (number-at 6 8 x))) fits)
 
     not-after : (n : ℕ) → mark-of x ≡ some WD → record-questions WD l n x ≡ 0 → Not-again (with-record WD l x) xs
     unfolding with-record with-word with-written address-allowed
@@ -164,10 +164,10 @@ delivery-renewed x e =
 
 loads-renewed : (k : Mark) (l : Loading) (x : List ℕ) → l .rules ≡ today → mark-of x ≡ some k → length x ≡ record-size stored k →
     as-stored (with-record k l (renewed x)) ≡ with-record k (as-stored l) x
-unfolding as-stored with-record with-word with-written memory-of renewed added record-size start-size delivery-at
+unfolding as-stored with-record with-word with-written words-with memory-of renewed added record-size start-size delivery-at
 loads-renewed ME l x v q e = rw (number-at-front x (added (mark-of x)) 2 4 (omega arith)) refl
 loads-renewed ST l x v q e = rw (q, v, registers-at-front x (replicate 5 0) (omega arith), delivery-renewed x e) refl
-loads-renewed WD l x v q e = rw (number-at-front x (added (mark-of x)) 2 4 (omega arith), number-at-front x (added (mark-of x)) 6 8 (omega arith)) refl
+loads-renewed WD l x v q e = rw (v, number-at-front x (added (mark-of x)) 2 4 (omega arith), number-at-front x (added (mark-of x)) 6 8 (omega arith)) refl
 loads-renewed RN l x v q e = refl
 
 -- none follow the renewed where none followed

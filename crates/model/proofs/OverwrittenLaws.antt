@@ -3,14 +3,14 @@ use mathlib.Core.Path.{_≡_, refl, sym, _∙_, ap}
 use mathlib.Core.Bool.{Bool, true, false, false≢true}
 use mathlib.Core.List.{List, [], _∷_, _++_, append-nil}
 use mathlib.Core.Option.{some}
-use Prim.Native.Nat.{ℕ, _+_}
+use Prim.Native.Nat.{ℕ}
 use lib.Dec.{eqb}
 use lib.ListN.{length, set, length-set}
 use lib.Seq.{set-set, set-comm}
 use borrow.Author.Tests.{eqb-true, eqb-false}
 use Rattle.model.specs.Registers.{Delivery, Machine}
 use Rattle.model.specs.Run.{unless-refused}
-use Rattle.model.specs.Image.{Mark, ME, ST, WD, RN, mark-of, number-at, stored, Loading, has, memory-of, or-else, in-order, address-allowed, unless-written, address-new, record-questions, with-written, with-word, with-record, Image, loaded, record-on, whole-record-on, image-after}
+use Rattle.model.specs.Image.{Mark, ME, ST, WD, RN, mark-of, number-at, stored, Loading, has, memory-of, or-else, in-order, address-allowed, unless-written, address-new, record-questions, with-written, words-with, with-word, with-record, Image, loaded, record-on, whole-record-on, image-after}
 use Rattle.model.specs.Convert.{joined, is-word, writes, some-writes, superseded, last-of-each}
 use Rattle.model.proofs.BranchLaws.{cond-holds, and-left, and-right, or-rest}
 use Rattle.model.proofs.CutLaws.{All-whole}
@@ -41,7 +41,7 @@ module _ (a : ℕ) (l j : Loading) (s : Same-but a l j) where
   with-memory-same x = rw (s .rules-first, s .rules-second, s .written-same, s .registers-same, s .delivery-same) refl
 
   with-its-word : (v : ℕ) → with-word a v l ≡ with-word a v j
-  unfolding with-word with-written memory-of
+  unfolding with-word with-written words-with memory-of
   with-its-word v = rw (s .rules-first, s .rules-second, s .written-same, s .registers-same, s .delivery-same, s .words-same v) refl
 
   with-start : (x : List ℕ) → Same-but a (with-record ST l x) (with-record ST j x)
@@ -59,7 +59,7 @@ module _ (a : ℕ) (l j : Loading) (s : Same-but a l j) where
       }
 
   with-other-word : (c v : ℕ) → (c ≡ a → ⊥) → Same-but a (with-word c v l) (with-word c v j)
-  unfolding with-word with-written has memory-of or-else
+  unfolding with-word with-written words-with has memory-of or-else
   with-other-word c v h =
       record {
         rules-first = s .rules-first;
@@ -68,8 +68,11 @@ module _ (a : ℕ) (l j : Loading) (s : Same-but a l j) where
         delivery-same = s .delivery-same;
         written-same = rw (s .rules-first, s .rules-second) (s .written-same);
         has-same = refl;
-        length-same = length-set (memory-of l) c v ∙ s .length-same ∙ sym (length-set (memory-of j) c v);
-        words-same = λ u. set-comm (memory-of l) c a v u h ∙ ap (λ ws. set ws c v) (s .words-same u) ∙ sym (set-comm (memory-of j) c a v u h);
+        length-same = rw (s .rules-first, s .rules-second) (length-set (memory-of l) c v ∙ s .length-same ∙ sym (length-set (memory-of j) c v));
+        words-same =
+            λ u.
+            rw (s .rules-first, s .rules-second)
+            (set-comm (memory-of l) c a v u h ∙ ap (λ ws. set ws c v) (s .words-same u) ∙ sym (set-comm (memory-of j) c a v u h));
       }
 
 -- one record more, where what comes after it is alike
@@ -123,7 +126,7 @@ overwritten-same a l j (x ∷ xs) t s w h =
 -- THE LAST OF EACH is as all of them, by the stored rules
 module _ (l : Loading) (v : l .rules ≡ stored) where
   its-word-may-wait : (a c : ℕ) → has (l .memory) ≡ true → Same-but a l (with-word a c l)
-  unfolding with-word with-written has memory-of or-else
+  unfolding with-word with-written words-with has memory-of or-else
   its-word-may-wait a c h =
       record {
         rules-first = v;
@@ -132,8 +135,8 @@ module _ (l : Loading) (v : l .rules ≡ stored) where
         delivery-same = refl;
         written-same = rw v refl;
         has-same = h;
-        length-same = sym (length-set (memory-of l) a c);
-        words-same = λ u. sym (set-set (memory-of l) a c u);
+        length-same = rw v (sym (length-set (memory-of l) a c));
+        words-same = λ u. rw v (sym (set-set (memory-of l) a c u));
       }
 
 -- the same record is accepted before other bytes that are accepted where those were

@@ -1,13 +1,15 @@
--- What a list of questions that has a yes to all says of each question. Assumes nothing.
-use mathlib.Core.Path.{_≡_, refl, subst}
+-- What a list of questions that has a yes to all says of each question, and what 1 to 4 look at. Assumes nothing.
+use mathlib.Core.Path.{_≡_, refl, ap, subst}
 use mathlib.Core.Bool.{Bool, true, false, _&&_}
+use mathlib.Core.List.{List}
 use Prim.Native.Nat.{ℕ, zero, suc, _+_, _≤_, _<_}
 use native.Mathlib.Omega.{arith}
 use lib.Dec.{leb}
+use lib.ListN.{length}
 use borrow.Author.Tests.{ltb-true, leb-true, eqb-true}
 use Rattle.model.specs.Words.{Descriptor, Pointer}
-use Rattle.model.specs.Registers.{Dbr}
-use Rattle.model.specs.Questions.{ask, then-ask, segment-questions, word-questions, use-questions, may-execute, may-read, may-write, fetch-questions, read-questions, write-questions, transfer-questions, new-ring, call-questions}
+use Rattle.model.specs.Registers.{Dbr, Registers, Delivery, machine}
+use Rattle.model.specs.Questions.{ask, then-ask, memory-fits, registers-in-range, rings-at-least, dbr-fits, start-questions, segment-questions, word-questions, use-questions, may-execute, may-read, may-write, fetch-questions, read-questions, write-questions, transfer-questions, new-ring, call-questions}
 use Rattle.model.proofs.BranchLaws.{and-left, and-right}
 
 pub ask-yes : (b : Bool) (n x : ℕ) → ask b (suc n) x ≡ 0 → (b ≡ true) × (x ≡ 0)
@@ -87,3 +89,11 @@ pub call-ring-at-most : (ipr t : Pointer) (d : Descriptor) → call-questions ip
 unfolding call-questions
 call-ring-at-most ipr t d e =
     leb-true _ _ (ask-yes _ _ _ (ask-yes _ _ _ (ask-yes _ _ _ (ask-yes _ _ _ (ask-yes _ _ _ e .1) .1) .1) .1) .0)
+
+-- 1 TO 4 look at memory's size alone
+pub asked-by-size : (v : Delivery) (r : Registers) (m k : List ℕ) → length m ≡ length k → start-questions v (machine r m) ≡ start-questions v (machine r k)
+unfolding start-questions machine
+asked-by-size v r m k e =
+    ap
+    (λ n. ask (memory-fits n) 1 (ask (registers-in-range v r) 2 (ask (rings-at-least (r .ipr .ring) (r .prs)) 3 (ask (dbr-fits n (r .dbr)) 4 0))))
+    e

@@ -15,7 +15,7 @@ use Rattle.model.specs.Words.{Pointer}
 use Rattle.model.specs.Registers.{Delivery, no-delivery, Machine, machine}
 use Rattle.model.specs.Questions.{all, ask, pointer-in-range, delivery-in-range, dbr-fits}
 use Rattle.model.specs.Run.{unless-refused}
-use Rattle.model.specs.Image.{today, Mark, ME, ST, WD, RN, marked, mark-of, start-size, record-size, big-endian, number-at, pointer-at, pointers-at, registers-at, delivery-at, Loading, nothing-loaded, has, or-else, memory-of, machine-of, in-order, memory-allowed, address-allowed, unless-written, address-new, record-questions, with-written, with-word, with-record, checked, record-on, whole-record-on, image-after, image}
+use Rattle.model.specs.Image.{today, Mark, ME, ST, WD, RN, marked, mark-of, start-size, record-size, big-endian, number-at, pointer-at, pointers-at, registers-at, delivery-at, Loading, nothing-loaded, has, or-else, memory-of, machine-of, in-order, memory-allowed, address-allowed, unless-written, address-new, record-questions, with-written, words-with, with-word, with-record, checked, record-on, whole-record-on, image-after, image}
 use Rattle.model.specs.Listing.{ascii}
 use Rattle.model.specs.Write.{bytes, pointer-bytes, pointers-bytes, ME-record, stored-ST, delivery-bytes, ST-record, WD-record, RN-record, word-records, written-image}
 use Rattle.model.specs.Written.{Writable, Written-loads}
@@ -173,7 +173,7 @@ module _ (v : Delivery) (m : Machine) (b : ℕ) (h : Writable v m b) where
     WD-yes = rw (address-read a (omega arith) w, lt-ltb a (length xs) inside, new)
 
     WD-loads : image-after (given xs f) (WD-record a w ++ rest) ≡ image-after (given (set xs a w) (λ x. eqb a x || f x)) rest
-    unfolding record-size record-on with-record with-word with-written or-else memory-of
+    unfolding record-size record-on with-record with-word with-written words-with or-else memory-of
     WD-loads =
         record-loads WD (given xs f) (WD-record a w) rest WD-marked (length-WD a w) WD-yes ∙ rw (address-read a (omega arith) w, word-read a w fits)
 

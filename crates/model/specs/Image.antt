@@ -1,4 +1,4 @@
--- 01, 'Images and the listing', with 02's L1 and L4: an image's records, questions 41 to 44 and 51 of each in order, then 1 to 4.
+-- 01, 'Images and the listing', with 02's L1, L4 and L12: an image's records, questions 41 to 44 and 51 of each in order, then 1 to 4.
 -- Assumes nothing: these are definitions.
 use mathlib.Core.Bool.{Bool, true, false, _&&_, _||_, not, cond}
 use mathlib.Core.List.{List, [], _∷_}
@@ -12,11 +12,12 @@ use Rattle.model.specs.Registers.{Registers, Delivery, no-delivery, Mach
 use Rattle.model.specs.Questions.{ask, yes-to-all, start-questions}
 use Rattle.model.specs.Run.{unless-refused}
 
--- THE RULES by which records are read: 01's, for which stored images were written (of two WD for one address the later wins, and ST has 59 bytes), and
--- today's
+-- THE RULES by which records are read: 01's, for which stored images were written (of two WD for one address the later wins, and ST has 59 bytes);
+-- today's; and today's for an image's needs (02, L12), by which no word is kept: memory is as ME made it, and stands for its size alone
 pub data Rules : Type 0 where
   stored : Rules
   today : Rules
+  sizing : Rules
 
 -- MARKS, two bytes of ASCII, and the bytes of a record with its mark
 pub data Mark : Type 0 where
@@ -35,6 +36,7 @@ mark-of bs =
 unfoldable pub start-size : Rules → ℕ
 start-size stored = 61
 start-size today = 66
+start-size sizing = 66
 
 unfoldable pub record-size : Rules → Mark → ℕ
 record-size v ME = 6
@@ -71,6 +73,7 @@ registers-at bs =
 unfoldable pub delivery-at : Rules → List ℕ → Delivery
 delivery-at stored bs = no-delivery
 delivery-at today bs = record { switch = number-at 61 1 bs; save = number-at 62 2 bs; handler = number-at 64 2 bs }
+delivery-at sizing bs = record { switch = number-at 61 1 bs; save = number-at 62 2 bs; handler = number-at 64 2 bs }
 
 -- WHAT THE RECORDS SO FAR GAVE: memory once ME has come, registers once ST has; today also which words a WD has written
 pub record Loading : Type 0 where
@@ -125,6 +128,7 @@ address-allowed RN l bs = true
 unfoldable pub unless-written : Rules → (is-written : Bool) → Bool
 unless-written stored w = true
 unless-written today w = not w
+unless-written sizing w = not w
 
 unfoldable pub address-new : Mark → Loading → List ℕ → Bool
 address-new ME l bs = true
@@ -140,12 +144,19 @@ record-questions k l n bs =
 unfoldable pub with-written : Rules → (address : ℕ) → (ℕ → Bool) → ℕ → Bool
 with-written stored a w = w
 with-written today a w = λ b. eqb a b || w b
+with-written sizing a w = λ b. eqb a b || w b
+
+-- a WD's word in its place, where words are kept
+unfoldable pub words-with : Rules → (address word : ℕ) → List ℕ → List ℕ
+words-with stored a v m = set m a v
+words-with today a v m = set m a v
+words-with sizing a v m = m
 
 unfoldable pub with-word : (address word : ℕ) → Loading → Loading
 with-word a v l =
     record {
       rules = l .rules;
-      memory = some (set (memory-of l) a v);
+      memory = some (words-with (l .rules) a v (memory-of l));
       written = with-written (l .rules) a (l .written);
       registers = l .registers;
       delivery = l .delivery;

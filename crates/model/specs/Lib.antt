@@ -28,6 +28,8 @@ pub mod Bracketing
 pub mod Old
 pub mod Renewed
 pub mod Doors
+pub mod Needs
+pub mod Needed
 pub mod Lent
 pub mod Notation
 pub mod Cases

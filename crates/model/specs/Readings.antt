@@ -15,6 +15,7 @@ use Rattle.model.specs.Notation.{pointer, flag, segment, by-ipr, by-pr, 
 use Rattle.model.specs.Brackets.{Row, set-brackets}
 use Rattle.model.specs.Old.{Way, from-old, to-old, convert-words}
 use Rattle.model.specs.Doors.{doors-listing, doors-text}
+use Rattle.model.specs.Needs.{needs-text}
 use Rattle.model.specs.Write.{bytes, stored-ST, ST-record}
 use Rattle.model.specs.Cases.{step-faults, ipr-becomes, pr-becomes, a-becomes, word-becomes, step-counts, run-lists, delivery-lists, image-prints, image-converts, left-by, Holds, about-to-do, about-to, through-pointer, case-12-registers, case-12, pointers-up, through-pointers}
 
@@ -34,6 +35,10 @@ with-descriptors a l =
 -- what the check says of a pointer
 abbrev check-says : Machine → Pointer → String → Type 0
 check-says m p s = check-line (check no-delivery m p) ≡ ascii s
+
+-- what the program says of an image's needs
+abbrev needs-are : (bytes : List ℕ) → String → Type 0
+needs-are bs s = needs-text bs ≡ ascii s
 
 -- another pointer in a PR
 unfoldable pub holding : (number : ℕ) → Pointer → Machine → Machine
@@ -220,5 +225,10 @@ pub record Readings : Type 0 where
   pub gates-past-the-end-are-no-door : doors-are (delivering 1) (about-to CALL 4 4 1 (segment 3 4 1 2 5 "E V" 9)) "door 1 3 3 5 2\nfaults 1 3\ndoors 1\n"
   pub gate-without-an-extension-is-no-door : doors-are no-delivery (about-to CALL 4 4 1 (segment 3 4 2 5 5 "E V" 2)) "doors 0\n"
   pub refused-image-has-no-doors : doors-text [] ≡ ascii "refused 42\n"
+  -- AN IMAGE'S NEEDS (02, L12): the WD records are counted and no other, 51 is asked, and 4 with ME's number as memory's size
+  pub needs-of-three-words : needs-are (started ++ WD-records ((4, 1) ∷ (5, 0) ∷ (6, 2) ∷ []) ++ ascii "RN" ++ bytes 4 9) "memory 64\nrecords 3\nbudget 9\nlines 10\npointers 576\n"
+  pub needs-of-no-steps : needs-are (image-of 64 (with-descriptors 64 0) [] 0) "memory 64\nrecords 0\nbudget 0\nlines 1\npointers 0\n"
+  pub needs-of-a-second-WD-are-51 : needs-are (started ++ WD-records ((4, 1) ∷ (4, 1) ∷ []) ++ ended) "refused 51\n"
+  pub needs-past-the-end-are-4 : needs-are (image-of 64 (with-descriptors 65 0) [] 1) "refused 4\n"
   -- WORD NUMBERS go round from 65,535 to 0
   pub offset-goes-round : Holds (pr-becomes (about-to-do (by-pr EAP 1 + 3) 4 (pointer 4 1 65535) 0 []) 5 (pointer 4 1 2))

@@ -2,7 +2,7 @@
 ghost use mathlib.Core.Path.{_≡_};
 ghost use Prim.Native.Nat.{_≤_};
 ghost use lib.ListN.{length, replicate};
-ghost use Rattle.reading.specs.Read.{Ready-within};
+ghost use Rattle.reading.specs.Read.{Zeros-lent, Ready-within};
 use host::record::Registers;
 use image::load::LoadOutcome;
 use image::load::Loaded;
@@ -15,10 +15,16 @@ pub struct Image {
     pub budget: u32,
 }
 
+// What reading an image gave, and how many bytes have come, modulo 2^64.
+pub struct Read {
+    pub loaded: Loaded,
+    pub length: u64,
+}
+
 // Reads and loads until an image is whole or refused; `More` means that the input can't be read.
-fn read_image(store: &mut [u64]) -> Loaded
-    requires { ⌜ now store ≡ replicate 8320 0 ⌝ }
-    ensures { λ x. ⌜ Ready-within x (now (store .exit)) ⌝ }
+pub fn read_image(store: &mut [u64]) -> Read
+    requires { ⌜ Zeros-lent (now store) ⌝ }
+    ensures { λ x. ⌜ Ready-within (x .loaded) (now (store .exit)) ⌝ }
 {
     let mut buffer = io::large_buffer();
     let mut x = Loaded {
@@ -26,30 +32,32 @@ fn read_image(store: &mut [u64]) -> Loaded
         outcome: LoadOutcome::More(0),
     };
     let mut kept = 0;
+    let mut length: u64 = 0;
     // A proved loop has to end, and nothing says that an input does: no input has so many pieces.
     let mut turns = u64::MAX;
     while turns > 0 {
         let piece = streams::read_piece(&mut buffer, kept);
         if piece.has_failed {
             os::fail(b"standard input");
-            return x;
+            return Read { loaded: x, length };
         }
+        length = std::num::wrapping_add_u64(length, (piece.size - kept) as u64);
         x = image::piece::load_piece(x.loading, store, &mut buffer, piece.size, piece.has_ended);
         let outcome = x.outcome;
         match outcome {
             LoadOutcome::Refused(_n) => {
-                return x;
+                return Read { loaded: x, length };
             }
             LoadOutcome::More(n) => {
                 kept = n;
             }
             LoadOutcome::Ready(_budget) => {
-                return x;
+                return Read { loaded: x, length };
             }
         }
         turns -= 1;
     }
-    x
+    Read { loaded: x, length }
 }
 
 // The image on standard input. One that is refused, or can't be read, has been answered, and isn't whole.
@@ -58,8 +66,9 @@ pub fn image_on_input(store: &mut [u64]) -> Image
     ensures { λ x. ⌜ x .words ≤ length (now (store .exit)) ⌝ }
 {
     let x = read_image(store);
-    let loading = x.loading;
-    let outcome = x.outcome;
+    let loaded = x.loaded;
+    let loading = loaded.loading;
+    let outcome = loaded.outcome;
     let registers = loading.registers;
     match outcome {
         LoadOutcome::Refused(n) => {

@@ -1,5 +1,5 @@
 -- Bytes without a whole record of a known mark: 41 and 42. Assumes nothing.
-use mathlib.Core.Path.{_≡_, refl, sym, _∙_, ap}
+use mathlib.Core.Path.{_≡_, refl, sym, _∙_, ap, subst}
 use mathlib.Core.Bool.{Bool, true}
 use mathlib.Core.List.{List, [], _∷_, _++_, append-nil}
 use mathlib.Core.Option.{some}
@@ -16,9 +16,10 @@ use Rattle.loading.specs.declared.Loading.{Loading}
 use Rattle.loading.specs.declared.Outcome.the-variants.{Refused}
 use Rattle.fields.specs.Mark.{as-mark, size-of}
 use Rattle.fields.specs.Rules.{rules-of}
-use Rattle.loading.specs.View.{as-loading}
+use Rattle.loading.specs.View.{rules-in, as-loading}
 use Rattle.loading.specs.Record.{outcome-image, Goes}
 use Rattle.fields.proofs.MarkLaws.{mark-of-front, start-within}
+use Rattle.loading.proofs.RecordLaws.{size-in}
 
 pub part-is-short : (v : Bool) (k : Mark) (bs : List ℕ) → length bs < size-of (rules-of v) k → length bs < 66
 part-is-short v Memory bs h = omega arith
@@ -48,6 +49,13 @@ no-length : (bs : List ℕ) → length bs ≡ 0 → bs ≡ []
 no-length [] e = refl
 no-length (b ∷ bs) e = absurd (omega arith)
 
+size-of-in : (v : Bool) (m : List ℕ) (k : Mark) → size-of (rules-in v m) k ≡ size-of (rules-of v) k
+size-of-in v m Memory = refl
+size-of-in v m Start = unfold record-size in size-in v m Image.ST
+size-of-in v m Word = refl
+size-of-in v m Run = refl
+size-of-in v m Unknown = refl
+
 module _ (x : Loading) (m bs : List ℕ) (e : Bool) where
   abbrev l : Image.Loading
   l = as-loading x m
@@ -61,7 +69,7 @@ module _ (x : Loading) (m bs : List ℕ) (e : Bool) where
     unfolding Goes as-loading outcome-image
     part-ended ended n h rest f =
         ap (λ xs. image-after l (bs ++ xs)) (f ended) ∙ ap (image-after l) (append-nil bs) ∙ some-bytes l bs (omega arith)
-        ∙ ap (λ o. marked-on o l bs (λ j xs. image-after j xs)) (sym q) ∙ part-refused k l bs _ h
+        ∙ ap (λ o. marked-on o l bs (λ j xs. image-after j xs)) (sym q) ∙ part-refused k l bs _ (subst (λ n. length bs < n) (sym (size-of-in (x .«is_stored») m k)) h)
 
     pub unknown-mark : k ≡ Unknown → (s : ℕ) → s ≤ length bs → s ≡ size-of (rules-of (x .«is_stored»)) k → Goes l bs e (Refused 41) l
     unfolding Goes outcome-image marked-on

@@ -5,9 +5,11 @@ use mathlib.Core.List.{List, _∷_, _++_}
 use mathlib.Core.Option.{some}
 use Prim.Native.Nat.{ℕ, zero, suc, _≤_, _<_}
 use native.Mathlib.Omega.{arith}
+use lib.Dec.{leb}
 use lib.ListN.{length, take, drop, replicate, length-append, length-drop, drop-of-length-le}
 use lib.Seq.{length-take-le}
-use borrow.Author.Tests.{not-true, not-false, le-leb, lt-leb, ne-eqb}
+use Rattle.model.proofs.BranchLaws.{cond-holds}
+use borrow.Author.Tests.{leb-true, not-true, not-false, le-leb, lt-leb, ne-eqb}
 use Rattle.model.specs.Questions.{ask}
 use Rattle.model.specs.Run.{unless-refused}
 use Rattle.model.specs.Image as Image
@@ -17,14 +19,20 @@ use Rattle.host.specs.declared.record.Registers.{Registers}
 use Rattle.host.specs.Record.{registers-of, delivery-of}
 use Rattle.loading.specs.declared.Loading.{Loading}
 use Rattle.loading.specs.declared.Outcome.the-variants.{Refused, Waits, Next, Ready}
-use Rattle.loading.specs.View.{rules-of, as-loading, Memory-within}
+use Rattle.loading.specs.View.{rules-of, keeps-words, memory-in, as-loading, Memory-within}
 use Rattle.loading.specs.Record.{outcome-image, Goes}
-use Rattle.loading.proofs.RecordLaws.{record-at-front, number-in-record, out-of-order}
+use Rattle.loading.proofs.RecordLaws.{number-in-record, delivery-in, loading-front, out-of-order}
 
 take-replicate : (n k : ℕ) (v : ℕ) → n ≤ k → take n (replicate k v) ≡ replicate n v
 take-replicate zero k v h = refl
 take-replicate (suc n) zero v h = absurd (omega arith)
 take-replicate (suc n) (suc k) v h = ap (λ xs. v ∷ xs) (take-replicate n k v (omega arith))
+
+no-words-yet : (n : ℕ) (m : List ℕ) → n ≤ 8192 → m ≡ replicate (length m) 0 → replicate n 0 ≡ memory-in n m
+unfolding memory-in keeps-words
+no-words-yet n m h z =
+    cond-holds (λ (ws : List ℕ). replicate n 0 ≡ ws) (leb 8320 (length m))
+    (λ e. sym (ap (take n) z ∙ take-replicate n (length m) 0 (let y = leb-true 8320 (length m) e in omega arith))) (λ _. refl)
 
 pub given-within : (n : ℕ) (m : List ℕ) → n ≤ 8192 → Memory-within true n m
 unfolding Memory-within
@@ -42,14 +50,14 @@ module _ (x : Loading) (m bs : List ℕ) (e : Bool) (is-marked : mark-of bs ≡ 
 
     pub me-too-large : 8192 < n → Goes (as-loading x m) bs e (Refused 43) (as-loading x m)
     unfolding Goes as-loading outcome-image record-size whole-record-on record-questions in-order memory-allowed ask has unless-refused
-    me-too-large g rest _ = record-at-front ME (as-loading x m) bs is-marked whole rest ∙ rw (h, size, lt-leb _ _ g)
+    me-too-large g rest _ = loading-front ME x m bs is-marked whole rest ∙ rw (h, size, lt-leb _ _ g)
 
     pub me-loaded : n ≤ 8192 → Memory-within (x .«has_memory») (x .words) m →
         Goes (as-loading x m) bs e (Next 6) (as-loading (record { «is_stored» = x .«is_stored»; «has_memory» = true; words = n; «has_registers» = x .«has_registers»; registers = x .registers }) m)
     unfolding Goes as-loading outcome-image record-size whole-record-on record-questions in-order memory-allowed address-allowed address-new record-on with-record ask has unless-refused Memory-within
     me-loaded g z rest _ =
-        let zeros : replicate {A = ℕ} n 0 ≡ take n m = sym (ap (take n) (rw h at z) ∙ take-replicate n 8320 0 (omega arith)) in
-        record-at-front ME (as-loading x m) bs is-marked whole rest ∙ rw (h, size, le-leb _ _ g, zeros)
+        let zeros : replicate {A = ℕ} n 0 ≡ memory-in n m = no-words-yet n m g (rw h at z) in
+        loading-front ME x m bs is-marked whole rest ∙ rw (h, size, le-leb _ _ g, zeros)
 
 -- ST, of so many bytes as the rules give it
 module _ (v : Bool) (n : ℕ) (bs : List ℕ) (sized : n ≡ start-size (rules-of v)) (whole : start-size (rules-of v) ≤ length bs) where
@@ -79,7 +87,7 @@ module _ (x : Loading) (m bs : List ℕ) (e : Bool) (is-marked : mark-of bs ≡ 
         registers-of r ≡ registers-at (take size bs) → delivery-of r ≡ delivery-at (rules-of (x .«is_stored»)) (take size bs) →
         Goes (as-loading x m) bs e (Next size) (as-loading (record { «is_stored» = x .«is_stored»; «has_memory» = x .«has_memory»; words = x .words; «has_registers» = true; registers = r }) m)
     unfolding Goes as-loading outcome-image record-size whole-record-on record-questions in-order memory-allowed address-allowed address-new record-on with-record ask has unless-refused
-    st-loaded g size r s q d rest _ = record-at-front ST (as-loading x m) bs is-marked whole rest ∙ rw (h, g, ← s, ← q, ← d)
+    st-loaded g size r s q d rest _ = loading-front ST x m bs is-marked whole rest ∙ rw (h, g, delivery-in (x .«is_stored») m, ← s, ← q, ← d)
 
 -- RN
 module _ (x : Loading) (m bs : List ℕ) (e : Bool) (is-marked : mark-of bs ≡ some RN) (whole : 6 ≤ length bs) where
@@ -103,7 +111,7 @@ module _ (x : Loading) (m bs : List ℕ) (e : Bool) (is-marked : mark-of bs ≡ 
       unfolding Goes as-loading outcome-image record-size whole-record-on record-questions in-order memory-allowed address-allowed address-new record-on ask has unless-refused
       rn-ends k ended b q rest f =
           let budget : number-at 2 4 (take 6 bs) ≡ b = number-in-record 6 2 4 bs whole (omega arith) ∙ sym q in
-          record-at-front RN (as-loading x m) bs is-marked whole rest ∙ rw (h, g, f ended, drop-of-length-le bs k, budget)
+          loading-front RN x m bs is-marked whole rest ∙ rw (h, g, f ended, drop-of-length-le bs k, budget)
 
 pub waits : (l : Image.Loading) (bs : List ℕ) (e : Bool) → Goes l bs e Waits l
 unfolding Goes outcome-image

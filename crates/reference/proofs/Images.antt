@@ -11,7 +11,7 @@ use borrow.Author.Tests.{eqb-true, ltb-true, ltb-false, eq-eqb, ne-eqb}
 use Rattle.model.specs.Registers.{no-delivery, Machine, machine}
 use Rattle.model.specs.Questions.{ask, start-questions}
 use Rattle.model.specs.Run.{unless-refused}
-use Rattle.model.specs.Image.{Mark, ME, ST, WD, RN, marked, mark-of, start-size, record-size, number-at, stored, Loading, nothing-loaded, has, or-else, memory-of, zero-registers, machine-of, in-order, memory-allowed, address-allowed, unless-written, address-new, record-questions, with-word, with-record, Image, refused-image, loaded, checked, record-on, whole-record-on, marked-on, bytes-on, image-from, image-after, stored-image}
+use Rattle.model.specs.Image.{Mark, ME, ST, WD, RN, marked, mark-of, start-size, record-size, number-at, stored, Loading, nothing-loaded, has, or-else, memory-of, zero-registers, machine-of, in-order, memory-allowed, address-allowed, unless-written, address-new, record-questions, words-with, with-word, with-record, Image, refused-image, loaded, checked, record-on, whole-record-on, marked-on, bytes-on, image-from, image-after, stored-image}
 use Rattle.model.proofs.BranchLaws.{and-left}
 use Rattle.model.proofs.QuestionLaws.{ask-yes}
 use Rattle.reference.specs.Run as Run03
@@ -194,6 +194,10 @@ module _ (n : ℕ) (l : Loading) (bs : List ℕ) (v : Stored l) (f : Loading →
   unfolding address-new unless-written
   may-write = rw (v .0) refl
 
+  its-words : (a w : ℕ) → words-with (l .rules) a w (memory-of l) ≡ set (memory-of l) a w
+  unfolding words-with
+  its-words a w = rw (v .0) refl
+
   wd-alike : Read-alike false false true false
   unfolding Read-alike records-opened
   wd-alike =
@@ -207,6 +211,7 @@ module _ (n : ℕ) (l : Loading) (bs : List ℕ) (v : Stored l) (f : Loading →
       (ap (λ x. ltb x (length (memory-of l))) (number-equal 2 4 bs) ∙ ltb-is-not-leb (Run03.big 2 4 bs) (length (memory-of l))) (not-asked (address-new WD l bs) may-write)))))
       (λ _.
       h (with-record WD l bs) (drop 14 bs) (stored-with WD l bs v)
+      ∙ ap (λ ws. Run03.image-from n (record { refusal = 0; has-me = true; has-st = has (l .registers); regs = View.regs (or-else zero-registers (l .registers)); mem = ws; budget = 0 }) (drop 14 bs)) (its-words _ _)
       ∙ ap₂ (λ x c. Run03.image-from n (record { refusal = 0; has-me = true; has-st = has (l .registers); regs = View.regs (or-else zero-registers (l .registers)); mem = set (memory-of l) x c; budget = 0 }) (drop 14 bs))
       (number-equal 2 4 bs) (number-equal 6 8 bs))
 

@@ -2,14 +2,16 @@
 
 use crate::checks;
 use crate::images::shuffle;
-use crate::library::{Answer, CheckAnswer, Lent};
+use crate::library::{Answer, CheckAnswer, Lent, NeedsAnswer};
 use crate::random::Random;
-use crate::reach::{Place, Reach, Unsaved};
+use crate::reach::{self, Place, Reach, Unsaved};
 use second::doors::{self, State};
 use second::old_cases::Segment;
 use second::opcodes::CALL;
 use second::tables::Table;
-use second::{Check, Descriptor, Direction, Fault, Image, Instruction, OldAnswer, Pointer, Registers, Reply, Row};
+use second::{
+    Check, Descriptor, Direction, Fault, Image, Instruction, Needs, OldAnswer, Pointer, Registers, Reply, Row,
+};
 
 /// What a call is handed.
 #[derive(Clone, Debug, Default, PartialEq, Eq)]
@@ -357,11 +359,12 @@ impl Comparer {
         text
     }
 
-    /// The bench's call, the doors of the image's start, and the conversion of the same bytes. Answers what the bench's call
-    /// does.
+    /// The bench's call, what the image will need, the doors of its start, and the conversion of the same bytes. Answers what
+    /// the bench's call does.
     pub fn image(&mut self, image: &[u8], text_length: usize, filler: u8) -> Result<i64, Difference> {
         self.images += 1;
         let answer = self.bench(image, text_length, filler)?;
+        self.needs(image, answer, filler)?;
         if answer >= 0 || answer == -45 {
             if let Ok(image) = second::read_image(image) {
                 self.doors(&image, filler)?;
@@ -396,6 +399,28 @@ impl Comparer {
             text += &format!("\n  second:\n{}\n  library:\n{}", part(mine), part(theirs));
         }
         Err(Difference(text))
+    }
+
+    /// What the image will need, where it stands for the bench's call, which has answered this: number and figures; the
+    /// image stays. The number is that of loading, and what was listed has no more lines and pointer words.
+    fn needs(&mut self, image: &[u8], answer: i64, filler: u8) -> Result<(), Difference> {
+        let start = usize::from(filler % 8);
+        let mine = NeedsAnswer::of(second::needs(image));
+        let theirs = crate::library::needs(&mut self.image[start..]);
+        if mine != theirs || self.image[start..] != *image {
+            let text = format!("kuzhlemor_needs:\n  second  {mine:?}\n  library {theirs:?}, or the image was written");
+            return Err(Difference(text));
+        }
+        // 45 has no place here.
+        let by_loading = if answer >= 0 || answer == -45 { 0 } else { answer.unsigned_abs() };
+        let text = usize::try_from(answer).ok().map(|length| &self.texts[1][start..start + length]);
+        let Needs { lines, pointers, .. } = theirs.needs;
+        let listed = text.map(reach::listed);
+        if theirs.number != by_loading || listed.is_some_and(|listed| listed.lines > lines || listed.total > pointers) {
+            return Err(Difference(format!("kuzhlemor_needs: {theirs:?}, but kuzhlemor_bench: {answer}, {listed:?}")));
+        }
+        self.reach.needs(theirs, listed);
+        Ok(())
     }
 
     /// Calls from other segments to some segments of an image's start: by its doors they come down, and not otherwise.

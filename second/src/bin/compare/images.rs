@@ -4,6 +4,7 @@ use crate::compare::{Comparer, Difference, Machine};
 use crate::describe;
 use crate::random::Random;
 use second::image::{pointer_bytes, st, stored_st};
+use second::need_cases::{self, Case};
 use second::{Dbr, Descriptor, Instruction, Pointer, PointerWord, Rules};
 
 /// An image, the buffer's length, and what differs.
@@ -81,6 +82,29 @@ pub fn shuffle<T>(random: &mut Random, list: &mut [T]) {
 
 pub fn compare(comparer: &mut Comparer, random: &mut Random, image: &[u8], length: usize) -> Result<i64, Failure> {
     comparer.image(image, length, random.next() as u8).map_err(|difference| (image.to_vec(), length, difference))
+}
+
+/// The library's directed images for what they will need, with figures and numbers that were worked out by hand, at every
+/// alignment; answers how many they are.
+pub fn needs(comparer: &mut Comparer) -> Result<usize, (String, Failure)> {
+    let cases = need_cases::cases();
+    let count = cases.len();
+    for Case { name, image, answer: by_papers } in cases {
+        // 45 comes last.
+        let expected = by_papers.map_or_else(|number| -i64::from(number), |_| -45);
+        for filler in 0..8 {
+            let difference = match comparer.image(&image, 0, filler) {
+                Ok(answer) if answer == expected && second::needs(&image) == by_papers => continue,
+                Ok(answer) => Difference(format!(
+                    "both answer {answer} and {:?}, the papers {by_papers:?}",
+                    second::needs(&image)
+                )),
+                Err(difference) => difference,
+            };
+            return Err((name, (image, 0, difference)));
+        }
+    }
+    Ok(count)
 }
 
 /// An image as it is, with a buffer that is large enough, or just or well too small.

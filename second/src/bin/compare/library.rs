@@ -2,7 +2,7 @@
 
 use crate::random::Random;
 use second::doors::{self, Change, State};
-use second::{Check, Dbr, Direction, Fault, OldAnswer, Pointer, Registers, Reply, Row};
+use second::{Check, Dbr, Direction, Fault, Needs, OldAnswer, Pointer, Registers, Reply, Row};
 
 #[repr(C)]
 #[derive(Clone, Copy, Default, PartialEq, Eq)]
@@ -84,6 +84,17 @@ struct COldAnswer {
     index: u64,
 }
 
+#[repr(C)]
+#[derive(Clone, Copy)]
+struct CNeeds {
+    number: u64,
+    memory: u64,
+    records: u64,
+    budget: u64,
+    lines: u64,
+    pointers: u64,
+}
+
 const _: () = assert!(std::mem::size_of::<CRegisters>() == 80);
 const _: () = assert!(std::mem::align_of::<CRegisters>() == 8);
 const _: () = assert!(std::mem::offset_of!(CRegisters, prs) == 22);
@@ -102,6 +113,8 @@ const _: () = assert!(std::mem::offset_of!(CRow, r1) == 4);
 const _: () = assert!(std::mem::offset_of!(CRow, execute) == 9);
 const _: () = assert!(std::mem::size_of::<COldAnswer>() == 16);
 const _: () = assert!(std::mem::offset_of!(COldAnswer, index) == 8);
+const _: () = assert!(std::mem::size_of::<CNeeds>() == 48);
+const _: () = assert!(std::mem::offset_of!(CNeeds, pointers) == 40);
 
 extern "C" {
     fn kuzhlemor_step(registers: *mut CRegisters, memory: *mut u64, words: usize) -> CReply;
@@ -126,6 +139,7 @@ extern "C" {
     ) -> u32;
     fn kuzhlemor_from_old(words: *mut u64, count: usize) -> COldAnswer;
     fn kuzhlemor_to_old(words: *mut u64, count: usize) -> COldAnswer;
+    fn kuzhlemor_needs(image: *const u8, length: usize) -> CNeeds;
 }
 
 /// A reply as the library gives it; it may be one that no `Reply` is.
@@ -188,6 +202,23 @@ impl CheckAnswer {
             Check::Passes { ring } => (4, 0, ring, Pointer::default()),
         };
         CheckAnswer { kind, number: u32::from(number), ring: u32::from(ring), pointer }
+    }
+}
+
+/// What an image will need as the library gives it; it may be what no image needs.
+#[derive(Clone, Copy, Debug, PartialEq, Eq)]
+pub struct NeedsAnswer {
+    pub number: u64,
+    pub needs: Needs,
+}
+
+impl NeedsAnswer {
+    /// What the header says: the figures are 0 where a number refuses the image.
+    pub fn of(needs: Result<Needs, u8>) -> NeedsAnswer {
+        match needs {
+            Ok(needs) => NeedsAnswer { number: 0, needs },
+            Err(number) => NeedsAnswer { number: u64::from(number), needs: Needs::default() },
+        }
     }
 }
 
@@ -367,6 +398,14 @@ impl Lent {
 pub fn bench(image: &[u8], text: &mut [u8]) -> i64 {
     // SAFETY: two runs of bytes, the second lent alone for the call.
     unsafe { kuzhlemor_bench(image.as_ptr(), image.len(), text.as_mut_ptr(), text.len()) }
+}
+
+/// What the image will need. It could be written here, so that a call that does is seen.
+pub fn needs(image: &mut [u8]) -> NeedsAnswer {
+    // SAFETY: a run of bytes, lent alone for the call.
+    let CNeeds { number, memory, records, budget, lines, pointers } =
+        unsafe { kuzhlemor_needs(image.as_mut_ptr(), image.len()) };
+    NeedsAnswer { number, needs: Needs { memory, records, budget, lines, pointers } }
 }
 
 /// The conversion of a stored image, in place: the last five bytes are room for what ST gains.

@@ -155,6 +155,12 @@ fn carry_out(plan: &Plan) -> Result<(), String> {
     })?;
     clock.part(&format!("directed: {count} images for 51, ST and the conversion, with the answers that 02 gives"));
 
+    let count = images::needs(&mut comparer).map_err(|(name, (image, length, difference))| {
+        image_differs(plan, &mut Comparer::new(), &name, image, length, difference)
+    })?;
+    clock
+        .part(&format!("directed: {count} images for what they will need, with the figures and numbers that 02 gives"));
+
     kept_inputs(plan, &mut comparer, &mut clock)?;
 
     let mut random = Random::new(plan.seed);
@@ -335,11 +341,12 @@ fn drawn_segments(plan: &Plan, comparer: &mut Comparer, clock: &mut Clock) -> Re
 /// The laptop's programs that the environment names.
 fn programs(plan: &Plan, generator: &mut Generator, clock: &mut Clock) -> Result<(), String> {
     type Compare = fn(&OsStr, &mut Random, &mut Generator) -> Result<usize, program::Failure>;
-    let programs: [(&str, &str, u32, Compare); 4] = [
+    let programs: [(&str, &str, u32, Compare); 5] = [
         ("may_call", "KUZHLEMOR_MAY_CALL", 48, program::may_call),
         ("brackets", "KUZHLEMOR_BRACKETS", 40, program::brackets),
         ("old_words", "KUZHLEMOR_OLD_WORDS", 12, program::old_words),
         ("doors", "KUZHLEMOR_DOORS", 20, program::doors),
+        ("needs", "KUZHLEMOR_NEEDS", 28, program::needs),
     ];
     for (name, variable, rotation, compare) in programs {
         let Some(path) = std::env::var_os(variable) else { continue };

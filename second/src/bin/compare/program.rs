@@ -1,5 +1,5 @@
-//! The laptop's programs that ask whether a call would pass, that set brackets, that convert descriptors and that list
-//! doors, against what the second implementation writes.
+//! The laptop's programs that ask whether a call would pass, that set brackets, that convert descriptors, that list doors
+//! and that say what an image will need, against what the second implementation writes.
 
 use std::ffi::OsStr;
 use std::io::{self, Write};
@@ -17,7 +17,7 @@ use second::image::pointer_bytes;
 use second::old::MOST_WORDS;
 use second::old_cases::{self, segment_bytes, Segment};
 use second::tables::{cases, inputs, rows_bytes, Input};
-use second::{calls, door_cases, Direction};
+use second::{calls, door_cases, need_cases, Direction};
 
 /// The name of an input, its bytes, and what differs.
 pub type Failure = (String, Vec<u8>, Difference);
@@ -53,6 +53,22 @@ impl<'p> Asked<'p> {
             Err(error) => format!("{}: {error}", self.program.to_string_lossy()),
         };
         Err((name, input, Difference(difference)))
+    }
+
+    /// Does the program write what this gives, for drawn images?
+    fn drawn_images(
+        &mut self,
+        random: &mut Random,
+        generator: &mut Generator,
+        text: fn(&[u8]) -> String,
+    ) -> Result<(), Failure> {
+        for number in 0..DRAWN {
+            let machine = drawn_machine(random, generator);
+            let image = drawn_image(random, &machine);
+            let text = text(&image);
+            self.ask(format!("drawn input {number}"), image, Some(text.as_bytes()))?;
+        }
+        Ok(())
     }
 }
 
@@ -132,12 +148,18 @@ pub fn doors(program: &OsStr, random: &mut Random, generator: &mut Generator) ->
     for calls::Input { name, bytes, text } in door_cases::inputs() {
         asked.ask(name, bytes, Some(text.as_bytes()))?;
     }
-    for number in 0..DRAWN {
-        let machine = drawn_machine(random, generator);
-        let image = drawn_image(random, &machine);
-        let text = second::doors_text(&image);
-        asked.ask(format!("drawn input {number}"), image, Some(text.as_bytes()))?;
+    asked.drawn_images(random, generator, second::doors_text)?;
+    Ok(asked.inputs)
+}
+
+/// What images will need.
+pub fn needs(program: &OsStr, random: &mut Random, generator: &mut Generator) -> Result<usize, Failure> {
+    let mut asked = Asked::new(program);
+    for case in need_cases::cases() {
+        let text = case.text();
+        asked.ask(case.name, case.image, Some(text.as_bytes()))?;
     }
+    asked.drawn_images(random, generator, second::needs_text)?;
     Ok(asked.inputs)
 }
 

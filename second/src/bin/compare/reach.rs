@@ -3,6 +3,7 @@
 use std::collections::BTreeMap;
 
 use crate::compare::Machine;
+use crate::library::NeedsAnswer;
 use second::doors::{Change, Door, Says};
 use second::image::{self, Record};
 use second::old_cases::Segment;
@@ -445,6 +446,79 @@ impl Doors {
     }
 }
 
+/// How far a listing went.
+#[derive(Clone, Copy, Debug)]
+pub struct Listed {
+    pub lines: u64,
+    pub total: u64,
+}
+
+/// The total is a listing's last number.
+pub fn listed(text: &[u8]) -> Listed {
+    let lines = text.iter().filter(|byte| **byte == b'\n').count();
+    let total = text.trim_ascii_end().rsplit(|byte| *byte == b' ').next().unwrap_or_default();
+    let total = total.iter().fold(0, |total, digit| 10 * total + u64::from(digit.wrapping_sub(b'0')));
+    Listed { lines: lines as u64, total }
+}
+
+/// The questions of an image that loading asks.
+const LOADING_QUESTIONS: [u8; 8] = [41, 42, 43, 44, 51, 2, 3, 4];
+
+/// What images will need.
+#[derive(Default)]
+struct ImageNeeds {
+    refused: BTreeMap<u64, u64>,
+    /// By the number of WDs, in the order of `RECORDS`.
+    records: [u64; RECORDS.len()],
+    /// 45: not listed.
+    unlisted: u64,
+    /// Listings that have fewer lines than there may be, and as many; and the same of pointer words, where there may be some.
+    lines: [u64; 2],
+    pointers: [u64; 2],
+    /// Pointer words of more than 32 bits.
+    many: u64,
+}
+
+const RECORDS: [&str; 5] = ["no WD", "1 WD", "2 to 999 WDs", "1000 to 8191 WDs", "8192 WDs"];
+
+impl ImageNeeds {
+    fn answered(&mut self, NeedsAnswer { number, needs }: NeedsAnswer, listed: Option<Listed>) {
+        if number != 0 {
+            *self.refused.entry(number).or_default() += 1;
+            return;
+        }
+        self.records[[1, 2, 1_000, 8_192].iter().filter(|least| **least <= needs.records).count()] += 1;
+        self.many += u64::from(needs.pointers >> 32 != 0);
+        match listed {
+            Some(Listed { lines, total }) => {
+                self.lines[usize::from(lines == needs.lines)] += 1;
+                if needs.pointers > 0 {
+                    self.pointers[usize::from(total == needs.pointers)] += 1;
+                }
+            }
+            None => self.unlisted += 1,
+        }
+    }
+
+    fn print(&self, missed: &mut Vec<String>) {
+        let refused = LOADING_QUESTIONS.iter().map(|number| {
+            (format!("{number} before loading"), self.refused.get(&u64::from(*number)).copied().unwrap_or(0))
+        });
+        let [fewer_lines, all_lines] = self.lines;
+        let [fewer_pointers, all_pointers] = self.pointers;
+        let others = [
+            ("no room for a listing", self.unlisted),
+            ("fewer lines", fewer_lines),
+            ("as many lines", all_lines),
+            ("fewer pointer words", fewer_pointers),
+            ("as many pointer words", all_pointers),
+            ("pointer words of more than 32 bits", self.many),
+        ];
+        let records = RECORDS.iter().map(|name| name.to_string()).zip(self.records);
+        print_row(refused.chain(records).chain(others.map(|(name, count)| (name.to_string(), count))), missed);
+    }
+}
+
 /// What refuses a table of brackets before its segments are looked at: a number, why, and whether it is so.
 type Cause = (u32, &'static str, fn(&Table) -> bool);
 
@@ -799,6 +873,7 @@ pub struct Reach {
     stack_bases: StackBases,
     ring_changes: Changes,
     doors: Doors,
+    needs: ImageNeeds,
     tables: Tables,
     segments: [Segments; 2],
     changed_memory: u64,
@@ -825,6 +900,7 @@ impl Reach {
             stack_bases: StackBases::default(),
             ring_changes: Changes::default(),
             doors: Doors::default(),
+            needs: ImageNeeds::default(),
             tables: Tables::default(),
             segments: Direction::BOTH.map(Segments::new),
             changed_memory: 0,
@@ -918,6 +994,11 @@ impl Reach {
         }
     }
 
+    /// What an image will need, and how far it went if it was listed.
+    pub fn needs(&mut self, answer: NeedsAnswer, listed: Option<Listed>) {
+        self.needs.answered(answer, listed);
+    }
+
     /// What a completed step from this ring did to it.
     pub fn change(&mut self, opcode: Option<u8>, ring: u8, change: Change) {
         self.ring_changes.count(opcode, ring, change);
@@ -974,6 +1055,8 @@ impl Reach {
         self.ring_changes.print(&mut missed);
         println!("starts of images by their doors, and calls from other segments there:");
         self.doors.print(&mut missed);
+        println!("what images will need, by what decides, and what their listings took of it:");
+        self.needs.print(&mut missed);
         println!("tables of brackets, by what decides:");
         self.tables.print(&mut missed);
         println!("segments of descriptors, by what decides:");

@@ -1,22 +1,18 @@
 -- `start::record_answer` meets its contract. Assumes nothing.
-use Rattle.host.proofs.RecordLaws.{asked-of-record}
+use mathlib.Core.Path.{refl}
 use borrow.Author.Needs.{needs}
 use Rattle.host.proofs.start.record_answer.Statement.{statement}
 use Rattle.host.proofs.start.record_answer.Tie as tie
 
-core-of-requires : tie.Need-core-of-requires
-core-of-requires c κs = search (needs, asked-of-record)
-
-check-answer-requires : tie.Need-check-answer-requires
-check-answer-requires c κs = search (needs, asked-of-record)
+record-size-answer-requires : tie.Need-record-size-answer-requires
+record-size-answer-requires c κs = search needs
 
 returns : tie.Need-returns
-returns c = search (needs, asked-of-record)
+returns c = c .record-size-answer .ensures _ refl
 
 pub record-answer-spec : {M : Type 1} → statement M
 record-answer-spec =
     tie.close
     (tie.spec
-    core-of-requires
-    check-answer-requires
+    record-size-answer-requires
     returns)

@@ -1,64 +1,24 @@
 -- `word::load_word` meets its contract. Assumes nothing.
-use mathlib.Core.Path.{refl}
 use borrow.Author.Needs.{needs}
-use Rattle.loading.specs.Record.{Outcome-within}
-use Rattle.loading.proofs.RecordLaws.{word-loaded}
+use Rattle.loading.proofs.RecordLaws.{word-recorded}
 use Rattle.loading.proofs.word.load_word.Statement.{statement}
 use Rattle.loading.proofs.word.load_word.Tie as tie
 
-returns : tie.Need-returns
-unfolding Outcome-within
-returns c = record { loading-same = refl; recorded = λ e. search (needs, word-loaded) }
-
-number-4-requires : tie.Need-number-4-requires
-number-4-requires c κs = search needs
-
-returns-2 : tie.Need-returns-2
-unfolding Outcome-within
-returns-2 c = record { loading-same = refl; recorded = λ e. search (needs, word-loaded) }
-
-cast-i : tie.Need-cast-i
-cast-i c = search needs
-
-may-write-requires : tie.Need-may-write-requires
-may-write-requires c κs = search (needs, word-loaded)
+take-word-requires : tie.Need-take-word-requires
+take-word-requires c κs = search needs
 
 same-length : tie.Need-same-length
 same-length c = search needs
 
-returns-3 : tie.Need-returns-3
-unfolding Outcome-within
-returns-3 c = record { loading-same = refl; recorded = λ e. search (needs, word-loaded) }
-
-number-8-requires : tie.Need-number-8-requires
-number-8-requires c κs = search needs
-
-mul-store : tie.Need-mul-store
-mul-store c = search needs
-
-slice-write-store : tie.Need-slice-write-store
-slice-write-store c = search word-loaded
+returns : tie.Need-returns
+returns c = search (needs, word-recorded)
 
 same-length-2 : tie.Need-same-length-2
 same-length-2 c = search needs
 
-returns-4 : tie.Need-returns-4
-unfolding Outcome-within
-returns-4 c = record { loading-same = refl; recorded = λ e. search (needs, word-loaded) }
+returns-2 : tie.Need-returns-2
+returns-2 c = search (needs, word-recorded)
 
 pub load-word-spec : {M : Type 1} → statement M
 load-word-spec =
-    tie.close
-    (tie.spec
-    returns
-    number-4-requires
-    returns-2
-    cast-i
-    may-write-requires
-    same-length
-    returns-3
-    number-8-requires
-    mul-store
-    slice-write-store
-    same-length-2
-    returns-4)
+    tie.close (tie.spec take-word-requires same-length returns same-length-2 returns-2)
