@@ -1,0 +1,139 @@
+"""The workbench's commands over files: what is read, written and said, and the status."""
+import os
+import signal
+import stat
+import sys
+import tempfile
+from typing import List
+
+from .assemble import Assembled, assemble
+from .image import BYTES_READ, read_image
+from .show import show
+
+# Statuses: an answer, none, and a text with mistakes.
+DONE, NO_ANSWER, MISTAKES = 0, 1, 2
+# More than a text for 8,192 words can need.
+SOURCE_MOST = 16_000_000
+MISTAKES_MOST = 1000
+
+
+class Failed(Exception):
+    """There is no answer; says why."""
+
+
+def _named(path: str) -> str:
+    return "standard input" if path == "-" else path
+
+
+def _read(path: str, most: int) -> bytes:
+    """A file's first bytes."""
+    try:
+        if path == "-":
+            return sys.stdin.buffer.read(most)
+        with open(path, "rb") as file:
+            return file.read(most)
+    except OSError:
+        raise Failed(f"{_named(path)}: can't be read") from None
+
+
+def _source_text(path: str) -> str:
+    data = _read(path, SOURCE_MOST + 1)
+    if len(data) > SOURCE_MOST:
+        raise Failed(f"{_named(path)}: more than {SOURCE_MOST} bytes are no source")
+    # Editors put a mark in front that isn't part of the text.
+    return data.decode("utf-8-sig", "replace")
+
+
+def _excerpt(lines: List[str], line: int, column: int) -> str:
+    """The line with a caret below the column; nothing for what is past the end or too long to help."""
+    text = lines[line - 1] if line <= len(lines) else ""
+    if not text.strip() or len(text) > 200:
+        return ""
+    text = "".join(c if " " <= c <= "~" else "?" for c in text.rstrip().replace("\t", " "))
+    return f"    {text}\n    {' ' * (column - 1)}^\n"
+
+
+def _say(path: str, text: str, assembled: Assembled) -> None:
+    """Mistakes and warnings, each with its place in the text."""
+    lines = text.split("\n")
+    said = []
+    for mistake in assembled.mistakes[:MISTAKES_MOST]:
+        said.append(f"{_named(path)}:{mistake.text()}\n" + _excerpt(lines, mistake.line, mistake.column))
+    if len(assembled.mistakes) > MISTAKES_MOST:
+        said.append(f"{_named(path)}: and {len(assembled.mistakes) - MISTAKES_MOST} mistakes more\n")
+    for line, column, warning in assembled.warnings:
+        said.append(f"{_named(path)}:{line}:{column}: warning: {warning}\n")
+    sys.stderr.write("".join(said))
+
+
+def _write(path: str, data: bytes) -> None:
+    """Writes a file whole or not at all: beside it first, with its permissions; it then takes its place."""
+    path = os.path.realpath(path)
+    mask = os.umask(0)
+    os.umask(mask)
+    mode = 0o666 & ~mask
+    part = ""
+    try:
+        if os.path.exists(path):
+            mode = stat.S_IMODE(os.stat(path).st_mode)
+        handle, part = tempfile.mkstemp(prefix="kuzhlemor.", dir=os.path.dirname(path))
+        with open(handle, "wb") as file:
+            file.write(data)
+        os.chmod(part, mode)
+        os.replace(part, path)
+        part = ""
+    except OSError:
+        raise Failed(f"{path}: can't be written") from None
+    finally:
+        if part:
+            os.unlink(part)
+
+
+def _print(data: bytes, what: str) -> None:
+    try:
+        sys.stdout.buffer.write(data)
+        sys.stdout.buffer.flush()
+    except BrokenPipeError:
+        # Nobody reads on; Python would say so once more as it ends.
+        os.dup2(os.open(os.devnull, os.O_WRONLY), sys.stdout.fileno())
+    except (OSError, AttributeError):
+        # Standard output is full, or closed, for which Python has None.
+        raise Failed(f"{what} couldn't be written") from None
+
+
+def assemble_file(source: str, image: str) -> int:
+    text = _source_text(source)
+    assembled = assemble(text)
+    _say(source, text, assembled)
+    if assembled.image is None:
+        return MISTAKES
+    if image == "-":
+        _print(assembled.image_bytes(), "the image")
+    else:
+        _write(image, assembled.image_bytes())
+    return DONE
+
+
+def show_file(path: str) -> int:
+    _print(show(read_image(_read(path, BYTES_READ))).encode("ascii"), "the text")
+    return DONE
+
+
+def _end(number: int, frame: object) -> None:
+    raise KeyboardInterrupt
+
+
+def main(arguments: List[str]) -> int:
+    for number in (signal.SIGTERM, signal.SIGHUP):
+        signal.signal(number, _end)
+    try:
+        if len(arguments) == 3 and arguments[0] == "assemble":
+            return assemble_file(arguments[1], arguments[2])
+        if len(arguments) == 2 and arguments[0] == "show":
+            return show_file(arguments[1])
+        raise Failed("workbench: assemble SOURCE IMAGE, or show IMAGE")
+    except Failed as failed:
+        print(f"kuzhlemor: {failed}", file=sys.stderr)
+        return NO_ANSWER
+    except KeyboardInterrupt:
+        return 130
