@@ -1,6 +1,6 @@
 """An image shown as text that assembles to one that loads the same; a damaged one as far as it goes."""
-from bisect import bisect_left
-from typing import Dict, List, Optional
+from bisect import bisect_left, bisect_right
+from typing import Dict, List, Optional, Tuple
 
 from .image import Image, Refused, Registers, descriptor_question, descriptors, nonzero_words, segment_name
 from .words import (
@@ -34,13 +34,11 @@ def _with_comment(text: str, comment: str) -> str:
     return f"{text:<{COMMENT_COLUMN - 1}} # {comment}" if comment else text
 
 
-def _count(number: int, what: str) -> str:
-    return f"{number} {what}" if number == 1 else f"{number} {what}s"
-
-
 def _stretch(first: int, end: int, what: str) -> str:
-    """Words or addresses from the first up to the end, which isn't one of them."""
-    return f"{what} {first}" if end == first + 1 else f"{what}s {first} to {end - 1}"
+    """Words, segments or addresses from the first up to the end, which isn't one of them."""
+    if end == first + 1:
+        return f"{what} {first}"
+    return f"{what}{'es' if what.endswith('s') else 's'} {first} to {end - 1}"
 
 
 def refusal_lines(refused: Refused) -> List[str]:
@@ -57,12 +55,38 @@ def _mark(mark: bytes) -> str:
     return mark.decode("ascii") if is_plain else "the bytes " + " ".join(f"{byte:02x}" for byte in mark) + " hex"
 
 
+class _Covers:
+    """Which descriptors cover a stretch of memory, found without asking each."""
+
+    def __init__(self, found: Dict[int, Descriptor], words: int) -> None:
+        stretches = sorted((d.address, min(d.address + d.length, words), number) for number, d in found.items())
+        self.stretches = [stretch for stretch in stretches if stretch[0] < stretch[1]]
+        self.firsts = [first for first, _, _ in self.stretches]
+        self.ends = sorted(end for _, end, _ in self.stretches)
+
+    def over(self, first: int, end: int, number: int) -> Tuple[List[int], int]:
+        """Some of the other segments that have words from the first up to the end, and how many there are."""
+        before_end = bisect_left(self.firsts, end)
+        count = before_end - bisect_right(self.ends, first) - 1
+        wanted = min(count, NAMED_MOST)
+        some: List[int] = []
+        if wanted == 0:
+            return some, 0
+        for _, other_end, other in reversed(self.stretches[:before_end]):
+            if other_end > first and other != number:
+                some.append(other)
+                if len(some) == wanted:
+                    break
+        return sorted(some), count
+
+
 class _Show:
     def __init__(self, image: Image) -> None:
         self.image = image
         self.words = image.words or 0
         self.memory = nonzero_words(image)
         self.descriptors = descriptors(image)
+        self.covers = _Covers(self.descriptors, self.words)
         self.first_descriptor = image.registers.dbr_address if image.registers else 0
         self.owned: Dict[int, List[int]] = {}
         self.unowned: List[int] = []
@@ -118,27 +142,31 @@ class _Show:
 
     def shared(self, number: int, d: Descriptor) -> List[str]:
         """Which words of a segment other descriptors cover as well, and which are descriptors themselves."""
-        lines = []
         end = min(d.address + d.length, self.words)
-        count = 0
-        for other, e in self.descriptors.items():
+        if d.address >= end:
+            return []
+        lines = []
+        others, count = self.covers.over(d.address, end, number)
+        for other in others:
+            e = self.descriptors[other]
             first = max(d.address, e.address)
             last = min(end, e.address + e.length)
-            if first < last and other != number:
-                count += 1
-                if count <= NAMED_MOST:
-                    mine = _stretch(first - d.address, last - d.address, "word")
-                    others = _stretch(first - e.address, last - e.address, "word")
-                    lines.append(f"    # {mine}: also {segment_name(other)}'s {others}")
-        if count > NAMED_MOST:
-            lines.append(f"    # {_count(count - NAMED_MOST, 'more descriptor')} that cover words of it")
+            mine = _stretch(first - d.address, last - d.address, "word")
+            theirs = _stretch(first - e.address, last - e.address, "word")
+            lines.append(f"    # {mine}: also {segment_name(other)}'s {theirs}")
+        if count > len(others):
+            more = count - len(others)
+            lines.append(f"    # and {more} more {'descriptor covers' if more == 1 else 'descriptors cover'} words of it")
+        return lines + self.over_descriptors(d, end)
+
+    def over_descriptors(self, d: Descriptor, end: int) -> List[str]:
         first = max(d.address, self.first_descriptor)
         last = min(end, self.first_descriptor + self.image.registers.dbr_length)
-        if first < last:
-            mine = _stretch(first - d.address, last - d.address, "word")
-            others = _stretch(first - self.first_descriptor, last - self.first_descriptor, "segment")
-            lines.append(f"    # {mine}: also the {'descriptor' if last == first + 1 else 'descriptors'} of {others}")
-        return lines
+        if first >= last:
+            return []
+        mine = _stretch(first - d.address, last - d.address, "word")
+        segments = _stretch(first - self.first_descriptor, last - self.first_descriptor, "segment")
+        return [f"    # {mine}: also the {'descriptor' if last == first + 1 else 'descriptors'} of {segments}"]
 
     def registers(self) -> List[str]:
         r = self.image.registers
@@ -166,22 +194,20 @@ class _Show:
     def pointer(self, pointer: Pointer) -> str:
         return f"ring {pointer.ring} {self.place(pointer.segment, pointer.word)}"
 
-    # Words.
+    # Words: each is a text and a comment, which may be empty.
 
     def section(self, number: int) -> List[str]:
         d = self.descriptors[number]
-        addresses = self.owned[number]
         labels = self.labels(number) if d.execute else {}
-        comment = _stretch(d.address, d.address + d.length, "address").replace("addresss", "addresses")
-        lines = ["", _with_comment(f"in {segment_name(number)}", comment)]
+        lines = ["", _with_comment(f"in {segment_name(number)}", _stretch(d.address, d.address + d.length, "address"))]
         expected = d.address
-        for address in addresses:
+        for address in self.owned[number]:
             if address > expected:
                 lines.append(self.gap(expected, address))
             word = self.memory[address]
+            text, comment = self.code(word, address, d, labels) if d.execute else self.data(word)
             label = labels.get(address)
-            text = self.code(word, address, d, labels) if d.execute else self.data(word)
-            lines.append(f"{label + ':' if label else '':<8}{text}")
+            lines.append(_with_comment(f"{label + ':' if label else '':<8}{text}", comment))
             expected = address + 1
         return lines
 
@@ -198,33 +224,39 @@ class _Show:
             word = self.memory[address]
             opcode = opcode_of(word)
             if opcode is not None and opcode.operand and not word >> 19 & 1:
-                target = d.address + ((address - d.address + word) & 0xFFFF)
+                target = d.address + (address - d.address + word & 0xFFFF)
                 if target in shown:
                     labels[target] = f"w{target - d.address}"
         return labels
 
-    def code(self, word: int, address: int, d: Descriptor, labels: Dict[int, str]) -> str:
-        """A word of a segment with E on: an instruction if it can be, else as data."""
+    def code(self, word: int, address: int, d: Descriptor, labels: Dict[int, str]) -> Tuple[str, str]:
+        """A word of a segment with E on: an instruction where its text says all of it, else as data."""
+        comment = ""
 
         def target(offset: int) -> str:
-            goes_to = d.address + (address - d.address + offset & 0xFFFF)
-            return labels.get(goes_to) or relative_text(offset)
+            nonlocal comment
+            goes_to = address - d.address + offset & 0xFFFF
+            label = labels.get(d.address + goes_to)
+            if label is None:
+                comment = f"word {goes_to}"
+            return label or relative_text(offset)
 
         text = instruction_text(word, target)
         if text is None:
             return self.data(word)
         unused = unused_fields(word)
         if not unused:
-            return text
-        return self.pointer_word(word) or _with_comment(f"word {number_text(word)}", f"{text}, and {', '.join(unused)}")
+            return text, comment
+        pointer = self.pointer_word(word)
+        return (pointer, "") if pointer else (f"word {number_text(word)}", f"{text}, and {', '.join(unused)}")
 
-    def data(self, word: int) -> str:
-        text = self.pointer_word(word)
-        if text is not None:
-            return text
+    def data(self, word: int) -> Tuple[str, str]:
+        pointer = self.pointer_word(word)
+        if pointer is not None:
+            return pointer, ""
         ignored = word >> 32
-        text = self.pointer_word(word & 0xFFFFFFFF) if ignored else None
-        return _with_comment(f"word {number_text(word)}", f"{text}, and {hex(ignored)} above it" if text else "")
+        pointer = self.pointer_word(word & 0xFFFFFFFF) if ignored else None
+        return f"word {number_text(word)}", f"{pointer}, and {hex(ignored)} above it" if pointer else ""
 
     def pointer_word(self, word: int) -> Optional[str]:
         """A word as a pointer, where it says no more than one and leads to a word that is there."""
@@ -237,12 +269,16 @@ class _Show:
         return f"pointer {self.pointer(pointer)}{' indirect' if pointer_is_indirect(word) else ''}"
 
     def outside(self) -> List[str]:
-        """Words that no segment which can be used has."""
+        """Words that no segment which can be used has: as data, with the instruction that they would be."""
         lines = []
         expected = None
         for address in self.unowned:
             if address != expected:
                 lines += ["", f"in memory.{address}"]
-            lines.append(f"        {self.data(self.memory[address])}")
+            word = self.memory[address]
+            text, comment = self.data(word)
+            if text.startswith("word") and opcode_of(word) is not None and not unused_fields(word):
+                comment = instruction_text(word) or ""
+            lines.append(_with_comment(f"        {text}", comment))
             expected = address + 1
         return lines
