@@ -3,7 +3,7 @@ from bisect import insort
 from typing import Dict, List, NamedTuple, Optional, Tuple
 
 from .image import SEGMENT_MOST, Image, Registers, descriptor_question, start_question, write_image
-from .source import END, NUMBER, Mistake, Token, found_at, number_of, shown
+from .source import END, NUMBER, Mistake, Token, found_at, meant, number_of, shown
 from .statements import (
     PR_NAMES,
     BrokenWord,
@@ -25,6 +25,9 @@ from .statements import (
     read_source,
 )
 from .words import Descriptor, Instruction, Pointer, encode_descriptor, encode_instruction, encode_pointer
+
+# Where a statement is missing.
+END_OF_TEXT = "the end of the text"
 
 
 class Section:
@@ -170,13 +173,13 @@ class _Assembler:
         if token.kind is NUMBER:
             section = self.numbered.get(number_of(token.text))
         if section is None:
-            self.note(token, "a segment that a segment statement declares")
+            self.note(token, "a segment that a segment statement declares" + meant(token.text, self.named))
         return section
 
     def put_label(self, section: Section, item: LabelText) -> None:
         name = item.token.text
         if section is self.memory:
-            self.note(item.token, "no label here: labels belong to segments")
+            self.note(item.token, "no label: memory has none")
         elif name in section.labels:
             self.note(item.token, f"a label of its own: line {section.label_lines[name]} has it in {section.name}")
         else:
@@ -206,7 +209,7 @@ class _Assembler:
         if section.text.is_broken:
             return
         if given is None and section.end == 0:
-            self.note(section.text.name, "a length, or words in it", f"neither for {shown(section.name)}")
+            self.note(section.text.name, "some, or its length", f"no words in {shown(section.name)}")
             return
         section.length = section.end if given is None else given.value
         if section.length > 65535:
@@ -235,7 +238,7 @@ class _Assembler:
             at = max(at, end)
         size = self.source.numbers.get("memory")
         if size is not None and at + length > size.value:
-            self.note(token, "room for it: give its address, or more memory", f"{length} words with no room in memory")
+            self.note(token, "more memory, or an address for it", f"no room for {length} words")
             return None
         _occupy(taken, at, length)
         return at
@@ -244,7 +247,7 @@ class _Assembler:
 
     def put_descriptors(self) -> None:
         for number, section in sorted(self.numbered.items()):
-            token = (section.text.number or section.text.name)[-1] if section.text.number else section.text.name
+            token = section.text.number.token if section.text.number else section.text.name
             if number >= self.dbr_length:
                 self.note(token, f"a number below dbr's length {self.dbr_length}", f"segment {number}")
             elif section.at is not None and section.length is not None and self.dbr_address is not None:
@@ -255,9 +258,10 @@ class _Assembler:
         section = placed.section
         given = section.text.fields.length if section.text else None
         if given is not None and placed.index >= given.value:
-            self.note(placed.token, f"at most {given.value} words in {section.name}", f"word {placed.index}")
+            self.note(placed.token, f"a word below its length {given.value}", f"word {placed.index} of {section.name}")
         elif section.at is not None:
-            self.put_at(section.at + placed.index, word, placed.token, f"word {placed.index} of {section.name}")
+            what = "a word" if section is self.memory else f"word {placed.index} of {section.name}"
+            self.put_at(section.at + placed.index, word, placed.token, what)
 
     def put_at(self, address: int, word: int, token: Token, what: str) -> None:
         size = self.source.numbers.get("memory")
@@ -339,13 +343,20 @@ class _Assembler:
                 section = section or self.named.get(place.segment.text)
             word = section.labels.get(place.word.text) if section is not None else None
             if word is None:
-                owner = section.name if section is not None else f"segment {place.segment.text}"
-                self.note(place.word, f"a label of {owner}")
+                self.note(place.word, self.label_expected(place, section))
                 return None
         if not 0 <= word + place.plus <= 65535:
             self.note(place.word, "a word from 0 to 65535", f"word {word + place.plus}")
             return None
         return word + place.plus
+
+    def label_expected(self, place: Place, section: Optional[Section]) -> str:
+        if section is None:
+            return f"a word's number: segment {place.segment.text} has no labels"
+        if section is self.memory:
+            return "no label: memory has none"
+        what = f"a label of {section.name}" if place.segment else f"a label of {section.name} or SEGMENT.WORD"
+        return what + meant(place.word.text, section.labels)
 
     def pointer(self, text: PointerText, here: Optional[Section], most: int, ring: int = 0) -> Optional[Pointer]:
         place = text.place
@@ -356,6 +367,7 @@ class _Assembler:
             number = here.number
             if here is self.memory:
                 self.note(place.word, "SEGMENT.WORD: memory has no labels")
+                return None
         if number is None:
             return None
         word = self.word(place, here)
@@ -373,7 +385,7 @@ class _Assembler:
         end = Token(END, "", source.last_line + 1, 1)
         for key in ("memory", "budget", "ipr"):
             if key not in source.seen:
-                self.note(end, f"{key}, which is missing", "the end of the text")
+                self.note(end, f"{key}, which is missing", END_OF_TEXT)
         image.words = numbers["memory"].value if "memory" in numbers else 0
         image.budget = numbers["budget"].value if "budget" in numbers else 0
         registers.a = numbers["a"].value if "a" in numbers else 0
@@ -403,10 +415,10 @@ class _Assembler:
         for section in self.sections:
             d = _descriptor(section.text.fields, section.at, section.length)
             if descriptor_question(d, image.words) == 13:
-                told.append((section, f"rings {d.r1} {d.r2} {d.r3} don't go up: every use is fault 13"))
+                told.append((section, f"rings {d.r1} {d.r2} {d.r3} don't go up, so every use is fault 13"))
             if descriptor_question(d, image.words) == 14:
-                told.append((section, f"ends at address {d.address + d.length}, past memory's {image.words}: every use is fault 14"))
-        warnings = [(s.text.name.line, s.text.name.column, f"{s.name} {what}") for s, what in told]
+                told.append((section, f"it ends at {d.address + d.length}, past memory's {image.words}, so every use is fault 14"))
+        warnings = [(s.text.name.line, s.text.name.column, f"{s.name}: {what}") for s, what in told]
         refused = start_question(image.registers, image.words)
         if refused is not None:
             ipr = self.source.seen["ipr"]

@@ -6,7 +6,7 @@ import sys
 import tempfile
 from typing import List
 
-from .assemble import Assembled, assemble
+from .assemble import END_OF_TEXT, Assembled, assemble
 from .image import BYTES_READ, read_image
 from .show import show
 
@@ -58,7 +58,9 @@ def _say(path: str, text: str, assembled: Assembled) -> None:
     lines = text.split("\n")
     said = []
     for mistake in assembled.mistakes[:MISTAKES_MOST]:
-        said.append(f"{_named(path)}:{mistake.text()}\n" + _excerpt(lines, mistake.line, mistake.column))
+        said.append(f"{_named(path)}:{mistake.text()}\n")
+        if mistake.found != END_OF_TEXT:
+            said.append(_excerpt(lines, mistake.line, mistake.column))
     if len(assembled.mistakes) > MISTAKES_MOST:
         said.append(f"{_named(path)}: and {len(assembled.mistakes) - MISTAKES_MOST} mistakes more\n")
     for line, column, warning in assembled.warnings:
@@ -90,14 +92,17 @@ def _write(path: str, data: bytes) -> None:
 
 
 def _print(data: bytes, what: str) -> None:
+    """Past Python's own buffer, of which it would complain once more as it ends."""
+    # None where standard output is closed.
+    if sys.stdout is None:
+        raise Failed(f"{what} couldn't be written")
     try:
-        sys.stdout.buffer.write(data)
-        sys.stdout.buffer.flush()
+        while data:
+            data = data[os.write(sys.stdout.fileno(), data) :]
     except BrokenPipeError:
-        # Nobody reads on; Python would say so once more as it ends.
-        os.dup2(os.open(os.devnull, os.O_WRONLY), sys.stdout.fileno())
-    except (OSError, AttributeError):
-        # Standard output is full, or closed, for which Python has None.
+        # Nobody reads on.
+        pass
+    except OSError:
         raise Failed(f"{what} couldn't be written") from None
 
 

@@ -1,6 +1,7 @@
 """The text's tokens, and its mistakes: each has its line and column, what was found there and what is expected."""
 import re
-from typing import List, NamedTuple, NoReturn, Optional, Sequence
+from difflib import get_close_matches
+from typing import Iterable, List, NamedTuple, NoReturn, Optional, Sequence
 
 NAME, NUMBER, SIGN, ODD, END = "name", "number", "sign", "odd", "end"
 _TOKEN = re.compile(
@@ -73,6 +74,12 @@ def number_of(text: str) -> Optional[int]:
     return TOO_LARGE if len(digits) > 30 else int(digits or "0", base)
 
 
+def meant(word: str, known: Iterable[str]) -> str:
+    """The end of a message about a word that isn't known: the one that it resembles, if there is one."""
+    close = get_close_matches(word, known, n=1)
+    return f"; did you mean {close[0]}?" if close else ""
+
+
 def listed(words: Sequence[str]) -> str:
     """One of several, as a sentence has it."""
     return words[0] if len(words) == 1 else ", ".join(words[:-1]) + " or " + words[-1]
@@ -127,21 +134,28 @@ class Line:
         return self.take()
 
     def number_token(self, token: Token, what: str, most: int, least: int = 0, negative: bool = False) -> int:
-        """A token's number, within its range; one that isn't is noted, and 0 stands for it."""
+        """A token's number; one that is out of its range is noted, and the nearest that isn't stands for it."""
         value = number_of(token.text) if token.kind is NUMBER else None
-        expected = f"{what}, a number from {least} to {most}"
+        expected = f"{what}, a number from {least} to {most}" if most < 2**64 - 1 else f"{what}, a number of at most 64 bits"
         if value is None:
             self.fail(expected, token)
         if negative:
             value = -value
         if not least <= value <= most:
             self.note(token, expected, ("'-" if negative else "'") + shown(token.text)[1:])
-            return 0
-        return value
+        return min(max(value, least), most)
 
     def number_up_to(self, what: str, most: int, least: int = 0) -> int:
         negative = least < 0 and self.skip("-")
         return self.number_token(self.take(), what, most, least, negative)
+
+    def number_needed(self, what: str, most: int) -> int:
+        """As number_up_to, but out of its range it ends the statement: whatever rests on it would be told as well."""
+        noted = len(self.mistakes)
+        value = self.number_up_to(what, most)
+        if len(self.mistakes) > noted:
+            raise Wrong
+        return value
 
     def end(self) -> None:
         if self.peek().kind is not END:

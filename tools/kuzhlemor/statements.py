@@ -1,9 +1,8 @@
 """The text's statements, one a line: what each is made of, not yet what its names stand for."""
-from difflib import get_close_matches
 from typing import Callable, Dict, List, NamedTuple, Optional, Union
 
 from .image import MEMORY_MOST, SEGMENT_MOST
-from .source import END, NAME, NUMBER, SIGN, Line, Mistake, Token, Wrong, listed, shown
+from .source import END, NAME, NUMBER, SIGN, Line, Mistake, Token, Wrong, listed, meant, shown
 from .words import OPCODE_NAMED, WORD_MOST, Opcode
 
 PR_NAMES = tuple(f"pr{k}" for k in range(8))
@@ -131,16 +130,16 @@ class Source:
         self.items: List[Item] = []
         # The statements that may be there once, by their names: where each stands.
         self.seen: Dict[str, Token] = {}
-        self.last_line = 1
+        self.last_line = 0
 
 
 def _attribute(line: Line, fields: Fields, key: str) -> None:
     if key == "at":
         token = line.peek()
-        fields.at = Given(line.number_up_to("ADDRESS", 2**24 - 1), token)
+        fields.at = Given(line.number_needed("ADDRESS", 2**24 - 1), token)
     elif key == "length":
         token = line.peek()
-        fields.length = Given(line.number_up_to("LENGTH", 65535), token)
+        fields.length = Given(line.number_needed("LENGTH", 65535), token)
     elif key == "rings":
         fields.rings = [line.number_up_to(ring, 7) for ring in ("R1", "R2", "R3")]
     elif key == "flags":
@@ -238,6 +237,8 @@ def _bare_operand(line: Line, token: Token) -> Operand:
         return Operand(pr, line.number_up_to("OFFSET", 65535, -32768), False, token)
     if token.kind is SIGN and token.text in "+-":
         return Operand(None, _plus(line), False, token)
+    if line.after_next().text == "|":
+        line.fail("PR0 to PR7")
     if token.kind is not NAME and line.after_next().text != ".":
         line.fail(OPERAND)
     return Operand(None, _place(line, False), False, token)
@@ -270,7 +271,10 @@ def _number_word(line: Line) -> Word:
 
 def _pointer_word(line: Line) -> Word:
     pointer = _pointer(line, needs_ring=True, needs_segment=False, ring_most=7)
-    return PointerWord(pointer, line.skip("indirect"))
+    indirect = line.skip("indirect")
+    if not indirect and line.peek().kind is not END:
+        line.fail("indirect or the end of the line")
+    return PointerWord(pointer, indirect)
 
 
 def _descriptor_word(line: Line) -> Word:
@@ -286,15 +290,22 @@ _WORDS: Dict[str, Callable[[Line], Word]] = {
 }
 
 
+def _segment_number(line: Line) -> Optional[Given]:
+    """None where it is out of range: the segment then gets one that is free, and keeps its name."""
+    token = line.peek()
+    noted = len(line.mistakes)
+    value = line.number_up_to("SEGNO", SEGMENT_MOST)
+    return Given(value, token) if len(line.mistakes) == noted else None
+
+
 def _read_segment(line: Line, source: Source, token: Token) -> None:
     number = None
     if line.peek().kind is NUMBER:
-        number_token = line.peek()
-        number = Given(line.number_up_to("SEGNO", SEGMENT_MOST), number_token)
+        number = _segment_number(line)
     # 'segment 4 at 16' has no name, while 'segment gate length 8' has one.
     if line.next_is("invalid") or line.peek().text.lower() in ATTRIBUTES and line.after_next().kind is NUMBER:
         line.fail("the segment's name")
-    name = line.name("the segment's name" if number else "the segment's number or name")
+    name = line.name("the segment's name" if line.at > 1 else "the segment's number or name")
     if name.text.lower() in PR_NAMES or name.text == "memory":
         line.note(name, "a name that isn't PR0 to PR7 nor memory")
     segment = SegmentText(number, name)
@@ -329,9 +340,9 @@ def _read_dbr(line: Line, source: Source, token: Token) -> None:
     while line.peek().kind is not END or fields.at is fields.length:
         at = line.peek()
         if fields.at is None and line.skip("at"):
-            fields.at = Given(line.number_up_to("ADDRESS", 2**32 - 1), line.tokens[line.at - 1])
+            fields.at = Given(line.number_needed("ADDRESS", 2**32 - 1), at)
         elif fields.length is None and line.skip("length"):
-            fields.length = Given(line.number_up_to("LENGTH", 65535), line.tokens[line.at - 1])
+            fields.length = Given(line.number_needed("LENGTH", 65535), at)
         else:
             line.fail("at ADDRESS or length LENGTH, each once", at)
 
@@ -348,21 +359,23 @@ def _read_switch(line: Line, source: Source, token: Token) -> None:
 
 def _read_fault_segment(line: Line, source: Source, token: Token) -> None:
     segment = line.peek()
-    if segment.kind is not NAME:
-        line.number_up_to("a segment's name or number", 65535)
-    else:
-        line.take()
+    if segment.kind is not NAME and segment.kind is not NUMBER:
+        line.fail("a segment's name or number")
+    line.take()
     source.fault_segments[token.text.lower()] = segment
 
 
 def _read_number(most: int) -> Callable[[Line, Source, Token], None]:
     def read(line: Line, source: Source, token: Token) -> None:
         at = line.peek()
-        least = -(2**63) if most == WORD_MOST else 0
-        value = line.number_up_to(token.text.lower() if most != WORD_MOST else "A", most, least)
-        source.numbers[token.text.lower()] = Given(value & WORD_MOST, at)
+        source.numbers[token.text.lower()] = Given(line.number_needed(token.text.lower(), most), at)
 
     return read
+
+
+def _read_a(line: Line, source: Source, token: Token) -> None:
+    at = line.peek()
+    source.numbers["a"] = Given(line.number_up_to("A", WORD_MOST, -(2**63)) & WORD_MOST, at)
 
 
 def _read_register(line: Line, source: Source, token: Token) -> None:
@@ -375,7 +388,7 @@ _ONCE: Dict[str, Callable[[Line, Source, Token], None]] = {
     "memory": _read_number(MEMORY_MOST),
     "budget": _read_number(2**32 - 1),
     "dbr": _read_dbr,
-    "a": _read_number(WORD_MOST),
+    "a": _read_a,
     "ipr": _read_register,
     "switch": _read_switch,
     "save": _read_fault_segment,
@@ -389,13 +402,14 @@ _OTHERS: Dict[str, Callable[[Line, Source, Token], None]] = {
 }
 
 
-def _unknown(line: Line, token: Token) -> None:
-    known = list(OPCODE_NAMED) + [name.upper() for name in (*_WORDS, *_ONCE, *_OTHERS)]
-    close = get_close_matches(token.text.upper(), known, n=1)
+def _unknown(line: Line, source: Source, token: Token) -> None:
+    following = line.peek().text
+    if following.upper() in OPCODE_NAMED or following.lower() in _WORDS:
+        source.items.insert(-1, LabelText(token))
+        line.fail(f"':' after the label {shown(token.text)}")
+    known = list(OPCODE_NAMED) + [*_WORDS, *_ONCE, *_OTHERS]
     expected = "an opcode, word, pointer, descriptor, skip, in, segment or another statement"
-    if close:
-        expected += f"; did you mean {close[0] if close[0] in OPCODE_NAMED else close[0].lower()}?"
-    line.fail(expected, token)
+    line.fail(expected + (meant(token.text.upper(), known) or meant(token.text.lower(), known)), token)
 
 
 def _read_word(line: Line, source: Source, token: Token) -> bool:
@@ -428,7 +442,7 @@ def _read_statement(line: Line, source: Source) -> None:
     if read is None:
         # Most likely an instruction: it keeps its place, so that the words behind it do.
         source.items.append(WordText(BrokenWord(), token))
-        _unknown(line, token)
+        _unknown(line, source, token)
     read(line, source, token)
     line.end()
 
