@@ -18,7 +18,6 @@ from .statements import (
     PointerText,
     PointerWord,
     SegmentText,
-    SkipText,
     Source,
     Word,
     WordText,
@@ -150,14 +149,13 @@ class _Assembler:
                 if not is_told and not is_broken:
                     self.note(item.token, "'in SEGMENT' before the first word")
                 is_told = True
-            elif isinstance(item, WordText):
-                self.placed.append(Placed(section, section.next_word, item.word, item.token))
-                section.next_word += 1
-                section.end = max(section.end, section.next_word)
-            elif isinstance(item, SkipText):
-                section.next_word += item.count
-            else:
+            elif isinstance(item, LabelText):
                 self.put_label(section, item)
+            else:
+                if isinstance(item, WordText):
+                    self.placed.append(Placed(section, section.next_word, item.word, item.token))
+                section.next_word += 1 if isinstance(item, WordText) else item.count
+                section.end = max(section.end, section.next_word)
 
     def section_of(self, item: InText) -> Optional[Section]:
         section: Optional[Section] = self.memory
@@ -290,16 +288,15 @@ class _Assembler:
         return None
 
     def encode_instruction(self, word: InstructionWord, placed: Placed) -> Optional[int]:
-        offset = 0
+        instruction = Instruction(word.opcode.number, False, 0, 0, False, word.reg, word.lit)
         operand = word.operand
-        if operand is None:
-            return encode_instruction(Instruction(word.opcode.number, False, 0, 0, False, word.reg, word.lit))
-        found = self.offset(operand, placed)
-        if found is None:
-            return None
-        offset = found & 0xFFFF
-        p = operand.pr is not None
-        return encode_instruction(Instruction(word.opcode.number, p, operand.pr or 0, offset, operand.indirect, word.reg, word.lit))
+        if operand is not None:
+            offset = self.offset(operand, placed)
+            if offset is None:
+                return None
+            p = operand.pr is not None
+            instruction = instruction._replace(p=p, prnum=operand.pr or 0, offset=offset & 0xFFFF, i=operand.indirect)
+        return encode_instruction(instruction)
 
     def offset(self, operand: Operand, placed: Placed) -> Optional[int]:
         if not isinstance(operand.offset, Place):

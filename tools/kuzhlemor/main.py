@@ -70,7 +70,7 @@ def _say(path: str, text: str, assembled: Assembled) -> None:
 
 def _write(path: str, data: bytes) -> None:
     """Writes a file whole or not at all: beside it first, with its permissions; it then takes its place."""
-    path = os.path.realpath(path)
+    named, path = path, os.path.realpath(path)
     mask = os.umask(0)
     os.umask(mask)
     mode = 0o666 & ~mask
@@ -85,7 +85,7 @@ def _write(path: str, data: bytes) -> None:
         os.replace(part, path)
         part = ""
     except OSError:
-        raise Failed(f"{path}: can't be written") from None
+        raise Failed(f"{named}: can't be written") from None
     finally:
         if part:
             os.unlink(part)
@@ -107,6 +107,8 @@ def _print(data: bytes, what: str) -> None:
 
 
 def assemble_file(source: str, image: str) -> int:
+    if "-" not in (source, image) and os.path.exists(image) and os.path.samefile(source, image):
+        raise Failed(f"{image}: is the source itself")
     text = _source_text(source)
     assembled = assemble(text)
     _say(source, text, assembled)

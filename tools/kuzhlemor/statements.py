@@ -299,13 +299,12 @@ def _segment_number(line: Line) -> Optional[Given]:
 
 
 def _read_segment(line: Line, source: Source, token: Token) -> None:
-    number = None
-    if line.peek().kind is NUMBER:
-        number = _segment_number(line)
+    has_number = line.peek().kind is NUMBER
+    number = _segment_number(line) if has_number else None
     # 'segment 4 at 16' has no name, while 'segment gate length 8' has one.
     if line.next_is("invalid") or line.peek().text.lower() in ATTRIBUTES and line.after_next().kind is NUMBER:
         line.fail("the segment's name")
-    name = line.name("the segment's name" if line.at > 1 else "the segment's number or name")
+    name = line.name("the segment's name" if has_number else "the segment's number or name")
     if name.text.lower() in PR_NAMES or name.text == "memory":
         line.note(name, "a name that isn't PR0 to PR7 nor memory")
     segment = SegmentText(number, name)
