@@ -132,10 +132,9 @@ def _registers(random: Random, image: Image, segments: int) -> None:
     ring = random.getrandbits(3)
     registers.a = random.choice((0, random.getrandbits(8), random.getrandbits(64), 1 << random.getrandbits(6)))
     registers.ipr = Pointer(ring, random.randrange(segments), random.randrange(16))
-    registers.prs = [
-        Pointer(max(ring, random.getrandbits(3)) if random.random() < 0.3 else ring, random.randrange(segments), random.randrange(16))
-        for _ in range(8)
-    ]
+    for k in range(8):
+        pr_ring = max(ring, random.getrandbits(3)) if random.random() < 0.3 else ring
+        registers.prs[k] = Pointer(pr_ring, random.randrange(segments), random.randrange(16))
     if random.random() < 0.5:
         registers.prs[random.randrange(8)] = Pointer(ring, 0, 0)
     if random.random() < 0.5:

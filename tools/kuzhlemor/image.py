@@ -33,7 +33,7 @@ class Registers:
 
 
 class Refused(NamedTuple):
-    """The first question that an image answers no. Of 1 to 4 the record is ST, whose place says nothing: they are asked at the end."""
+    """The first question that an image answers no. 1 to 4 are asked at RN, whose place then says nothing."""
 
     number: int
     why: str

@@ -8,6 +8,7 @@ _TOKEN = re.compile(
     r"[ \t\r]*(?:([A-Za-z_][A-Za-z0-9_]*)|([0-9][A-Za-z0-9_]*)|([]|.,:+[-])|([#;].*|$)|([^\s\w#;|.,:+\[\]-]+|.))", re.ASCII
 )
 _KINDS = (None, NAME, NUMBER, SIGN, END, ODD)
+_END_GROUP = _KINDS.index(END)
 _DECIMAL = re.compile(r"[0-9]+(?:_[0-9]+)*")
 _HEXADECIMAL = re.compile(r"0[xX][0-9A-Fa-f]+(?:_[0-9A-Fa-f]+)*")
 # More than any number of the text may be.
@@ -50,17 +51,15 @@ def found_at(token: Token) -> str:
 def tokens_of(text: str, number: int) -> List[Token]:
     """A line's tokens; the last is END, right behind the one before it."""
     tokens = []
-    at = 0
     end = 1
-    while True:
-        match = _TOKEN.match(text, at)
-        kind = _KINDS[match.lastindex]
-        if kind is END:
-            tokens.append(Token(END, "", number, end))
-            return tokens
-        at = match.end()
-        tokens.append(Token(kind, match.group(match.lastindex), number, match.start(match.lastindex) + 1))
-        end = at + 1
+    for match in _TOKEN.finditer(text):
+        group = match.lastindex
+        if group == _END_GROUP:
+            break
+        tokens.append(Token(_KINDS[group], match[group], number, match.start(group) + 1))
+        end = match.end() + 1
+    tokens.append(Token(END, "", number, end))
+    return tokens
 
 
 def number_of(text: str) -> Optional[int]:
@@ -83,6 +82,10 @@ def meant(word: str, known: Iterable[str]) -> str:
 def listed(words: Sequence[str]) -> str:
     """One of several, as a sentence has it."""
     return words[0] if len(words) == 1 else ", ".join(words[:-1]) + " or " + words[-1]
+
+
+def _number_expected(what: str, least: int, most: int) -> str:
+    return f"{what}, a number from {least} to {most}" if most < 2**64 - 1 else f"{what}, a number of at most 64 bits"
 
 
 class Line:
@@ -136,14 +139,14 @@ class Line:
     def number_token(self, token: Token, what: str, most: int, least: int = 0, negative: bool = False) -> int:
         """A token's number; one that is out of its range is noted, and the nearest that isn't stands for it."""
         value = number_of(token.text) if token.kind is NUMBER else None
-        expected = f"{what}, a number from {least} to {most}" if most < 2**64 - 1 else f"{what}, a number of at most 64 bits"
         if value is None:
-            self.fail(expected, token)
+            self.fail(_number_expected(what, least, most), token)
         if negative:
             value = -value
-        if not least <= value <= most:
-            self.note(token, expected, ("'-" if negative else "'") + shown(token.text)[1:])
-        return min(max(value, least), most)
+        if least <= value <= most:
+            return value
+        self.note(token, _number_expected(what, least, most), ("'-" if negative else "'") + shown(token.text)[1:])
+        return least if value < least else most
 
     def number_up_to(self, what: str, most: int, least: int = 0) -> int:
         negative = least < 0 and self.skip("-")

@@ -19,7 +19,7 @@ class Given(NamedTuple):
 
 
 class Place(NamedTuple):
-    """A word of a segment: SEGMENT.WORD, or a label of the segment that is being written. `word` is a number's token or a label's."""
+    """A word of a segment: SEGMENT.WORD, or a label of the segment that is being written. `word` is a number or a label."""
 
     segment: Optional[Token]
     word: Token
@@ -417,10 +417,13 @@ def _read_word(line: Line, source: Source, token: Token) -> bool:
     read = _WORDS.get(token.text.lower())
     if opcode is None and read is None:
         return False
-    source.items.append(WordText(BrokenWord(), token))
-    word = _instruction(line, opcode) if opcode is not None else read(line)
-    line.end()
-    source.items[-1] = WordText(word, token)
+    try:
+        word = _instruction(line, opcode) if opcode is not None else read(line)
+        line.end()
+    except Wrong:
+        source.items.append(WordText(BrokenWord(), token))
+        raise
+    source.items.append(WordText(word, token))
     return True
 
 
@@ -461,11 +464,11 @@ def read_source(text: str, mistakes: List[Mistake]) -> Source:
     """The text's statements; its mistakes are noted."""
     source = Source()
     for number, line_text in enumerate(text.split("\n"), 1):
-        line = Line(line_text, number, mistakes)
+        if line_text.lstrip(" \t\r")[:1] in ("", "#", ";"):
+            continue
+        source.last_line = number
         try:
-            _read_line(line, source)
+            _read_line(Line(line_text, number, mistakes), source)
         except Wrong:
             pass
-        if line.tokens[0].kind is not END:
-            source.last_line = number
     return source
