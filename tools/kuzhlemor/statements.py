@@ -1,5 +1,5 @@
 """The text's statements, one a line: what each is made of, not yet what its names stand for."""
-from typing import Callable, Dict, List, NamedTuple, Optional, Union
+from typing import Callable, Dict, List, NamedTuple, Optional, Sequence, Union
 
 from .image import MEMORY_MOST, SEGMENT_MOST
 from .source import END, NAME, NUMBER, SIGN, Line, Mistake, Token, Wrong, listed, meant, shown
@@ -25,9 +25,6 @@ class Place(NamedTuple):
     word: Token
     plus: int
 
-    def first(self) -> Token:
-        return self.segment or self.word
-
 
 class Operand(NamedTuple):
     """PRn|OFFSET, with `pr`, or a place or a distance in words with P off. The offset is a number or a place."""
@@ -35,7 +32,6 @@ class Operand(NamedTuple):
     pr: Optional[int]
     offset: Union[int, Place]
     indirect: bool
-    token: Token
 
 
 class PointerText(NamedTuple):
@@ -164,8 +160,8 @@ def _flags(line: Line) -> str:
     return letters
 
 
-def _fields(line: Line, fields: Fields, needed: List[str]) -> None:
-    """The attributes up to the line's end, in any order, each once."""
+def _fields(line: Line, fields: Fields, needed: Sequence[str]) -> None:
+    """The attributes up to the line's end, in any order, each once; the needed ones are said with their numbers."""
     given: List[str] = []
     while line.peek().kind is not END:
         key = line.peek().text.lower()
@@ -175,9 +171,9 @@ def _fields(line: Line, fields: Fields, needed: List[str]) -> None:
         line.take()
         given.append(key)
         _attribute(line, fields, key)
-    for name in needed:
-        if name not in given:
-            line.fail("rings R1 R2 R3" if name == "rings" else f"{name} {name.upper()}" if name != "at" else "at ADDRESS")
+    for attribute in needed:
+        if attribute.split()[0] not in given:
+            line.fail(attribute)
 
 
 def _place(line: Line, needs_segment: bool) -> Place:
@@ -226,28 +222,28 @@ def _pr(line: Line) -> int:
     return int(token.text[2:])
 
 
-def _bare_operand(line: Line, token: Token) -> Operand:
+def _bare_operand(line: Line) -> Operand:
     """Without the brackets that put I on."""
+    token = line.peek()
     if token.text.lower() in PR_NAMES:
         pr = _pr(line)
         line.need("|", "'|' and an offset")
-        next_one = line.peek()
-        if next_one.kind is NAME or line.after_next().text == ".":
-            return Operand(pr, _place(line, False), False, token)
-        return Operand(pr, line.number_up_to("OFFSET", 65535, -32768), False, token)
+        if line.peek().kind is NAME or line.after_next().text == ".":
+            return Operand(pr, _place(line, False), False)
+        return Operand(pr, line.number_up_to("OFFSET", 65535, -32768), False)
     if token.kind is SIGN and token.text in "+-":
-        return Operand(None, _plus(line), False, token)
+        return Operand(None, _plus(line), False)
     if line.after_next().text == "|":
         line.fail("PR0 to PR7")
     if token.kind is not NAME and line.after_next().text != ".":
         line.fail(OPERAND)
-    return Operand(None, _place(line, False), False, token)
+    return Operand(None, _place(line, False), False)
 
 
 def _operand(line: Line) -> Operand:
     if not line.skip("["):
-        return _bare_operand(line, line.peek())
-    operand = _bare_operand(line, line.peek())
+        return _bare_operand(line)
+    operand = _bare_operand(line)
     line.need("]")
     return operand._replace(indirect=True)
 
@@ -279,7 +275,7 @@ def _pointer_word(line: Line) -> Word:
 
 def _descriptor_word(line: Line) -> Word:
     fields = Fields()
-    _fields(line, fields, ["at", "length", "rings", "flags"])
+    _fields(line, fields, ("at ADDRESS", "length LENGTH", "rings R1 R2 R3", "flags FLAGS"))
     return DescriptorWord(fields)
 
 
@@ -309,7 +305,7 @@ def _read_segment(line: Line, source: Source, token: Token) -> None:
         line.note(name, "a name that isn't PR0 to PR7 nor memory")
     segment = SegmentText(number, name)
     source.segments.append(segment)
-    _fields(line, segment.fields, ["rings", "flags"])
+    _fields(line, segment.fields, ("rings R1 R2 R3", "flags FLAGS"))
     segment.is_broken = False
 
 
