@@ -1,5 +1,8 @@
 """Every question that the library or its programs have a number for, explained: one table for `explain`, labels and the guide."""
+from textwrap import fill
 from typing import Dict, Iterable, List, NamedTuple
+
+WIDTH = 79
 
 
 class Question(NamedTuple):
@@ -337,6 +340,15 @@ def ranges(numbers: Iterable[int]) -> str:
             stretches.append([number])
     texts = [f"{some[0]} to {some[-1]}" if len(some) > 1 else str(some[0]) for some in stretches]
     return f"{', '.join(texts[:-1])} and {texts[-1]}" if len(texts) > 1 else "".join(texts)
+
+
+def question_text(question: Question) -> str:
+    """A question and its texts, as lines that fit a terminal."""
+    lines = [f"Question {question.number}: a no {'is a fault' if question.number in FAULTS else 'refuses'}."]
+    texts = (("asks", question.asks), ("when", question.when), ("usual cause", question.cause), ("look at", question.look))
+    for name, text in texts:
+        lines.append(fill(text, WIDTH, initial_indent=f"  {name:<13}", subsequent_indent=" " * 15, break_on_hyphens=False))
+    return "\n".join(lines) + "\n"
 
 
 def markdown() -> str:
