@@ -324,7 +324,7 @@ def _end(machine: Machine, budget: int) -> str:
         return _fault(machine, reply)
     if reply.kind == HALTED:
         halt = ipr._replace(word=ipr.word - 1 & 0xFFFF)
-        return f"Halted after {_steps(reply.count)} of a budget of {budget}: HLT, {_place(halt)}, was the last of them."
+        return f"Halted after {_steps(reply.count)} of a budget of {budget}, by HLT {_place(halt)}."
     if reply.kind == SPENT:
         return f"Spent: the budget of {_steps(budget)} is used up, and the next instruction would be fetched {_place(ipr)}."
     return f"Refused with {reply.number}: {NOT_FOUND}. {_more(reply.number)}"
