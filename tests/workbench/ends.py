@@ -150,6 +150,11 @@ SEGMENTS = [
 
 USES = [
     End(21, "in data\nLDI 7", (4, 2, 0), "E is off", start="ipr ring 4 data.0\n", instruction="LDI 7", place=(4, 2, 0)),
+    End(21, "in data\nLDI 7", (3, 2, 0), "E is off", start="ipr ring 3 data.0\n", instruction="LDI 7", place=(3, 2, 0)),
+    End(
+        21, "in low\nLDI 7", (4, 1, 0), "IPR's ring 4 is above R2 = 2", start="ipr ring 4 low.0\n", instruction="LDI 7",
+        place=(4, 1, 0),
+    ),
     End(21, "LDI 7", (5, 4, 0), "IPR's ring 5 is above R2 = 4", start="ipr ring 5 main.0\n", place=(5, 4, 0)),
     End(21, "LDI 7", (3, 4, 0), "IPR's ring 3 is below R1 = 4", start="ipr ring 3 main.0\n", place=(3, 4, 0)),
     End(
@@ -249,6 +254,8 @@ SAVES = [
     ),
     _not_delivered(2, "its LENGTH 4 is below 13"),
     _not_delivered(4, "its W is off"),
+    # As long as a frame, and up to memory's end.
+    _not_delivered(6, "its W is off", _sixth("at 115 length 13 rings 0 0 0 flags R")),
     _not_delivered(6, "its LENGTH 12 is below 13, and its W is off", _sixth("at 72 length 12 rings 0 0 0 flags R")),
     # The laboratory's fault is delivered. The handler puts 0 into the save segment's descriptor and then faults itself: what is
     # told is what stood at its own fault.

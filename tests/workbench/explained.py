@@ -14,6 +14,7 @@ from typing import Callable, Dict, Optional, Tuple
 import drawn
 from checks import COMMAND, EXAMPLES, LIBRARY, PROGRAMS, TOP, check, command, program, run, says
 from ends import ENDS, OTHERS, PLAIN, STARTS
+from kuzhlemor import explain
 from kuzhlemor.assemble import assemble
 from kuzhlemor.explain import NOT_FOUND, explanation
 from kuzhlemor.image import BYTES_READ, Image, read_image, wd_record
@@ -212,10 +213,10 @@ class Stood:
     """What stood at a fault, by the test's own reckoning from the proved library's steps, under the names that a paragraph has."""
 
     def __init__(self, library: Library, image: Image, last: str) -> None:
-        self.number, count, *pointer = map(int, last.split()[1:6])
+        self.number, self.count, *pointer = map(int, last.split()[1:6])
         self.pointer = Pointer(*pointer)
         machine = Machine(library, image)
-        machine.run(count)
+        machine.run(self.count)
         registers = machine.registers()
         self.memory = machine.memory
         self.values = {"effective ring": self.pointer.ring, "IPR's ring": registers.ipr.ring, "memory's": machine.words}
@@ -238,7 +239,8 @@ class Stood:
 
 def check_comparison(stood: Stood, paragraph: str) -> None:
     """The comparison is true as it is said, and of what stood at the fault."""
-    check(paragraph.startswith(f"Fault {stood.number} after ") and NOT_FOUND not in paragraph, paragraph)
+    check(re.match(rf"Fault {stood.number} after {stood.count} steps?: ", paragraph) is not None, paragraph)
+    check(NOT_FOUND not in paragraph, paragraph)
     check(paragraph.endswith(f" See kuzhlemor explain {stood.number}."), paragraph)
     said = paragraph.partition(": ")[2].partition(". ")[0]
     pairs = _PAIR.findall(said)
@@ -276,14 +278,17 @@ def check_places(stood: Stood, paragraph: str) -> None:
 
 
 def drawn_images() -> None:
-    """Images drawn with a seed: the listing is as it was, and a fault's comparison true."""
+    """Images drawn with a seed: the listing is as it was, and a fault's comparison true; where a run has several pieces too."""
     library = Library(str(LIBRARY))
     random = Random(21)
+    usual = explain.STEPS_AT_A_TIME
     for k in range(LISTED):
+        explain.STEPS_AT_A_TIME = 1 + k % 20
         data = b"".join(drawn.records(random, drawn.runnable(random, budget_most=50)))
         status, listing, paragraph = listed_and_explained(data)
         check(status == 0 and listing == program("simulate", data), f"image {k}: another listing")
         check_end(library, read_image(data), listing.split("\n")[-2], plain(paragraph))
+    explain.STEPS_AT_A_TIME = usual
     came = set()
     for k in range(DRAWN):
         image = read_image(b"".join(drawn.records(random, drawn.runnable(random, budget_most=500))))
@@ -304,13 +309,16 @@ def reply_line(library: Library, image: Image) -> str:
 def check_end(library: Library, image: Image, last: str, paragraph: str) -> int:
     """The paragraph is about the last line; the number of its question, or 0."""
     kind, number = last.split()[:2]
-    check(paragraph.startswith(kind.capitalize()), f"{last}: {paragraph}")
     if kind == "fault":
         check_comparison(Stood(library, image, last), paragraph)
-    elif kind == "refused":
-        check(re.match(rf"Refused with {number}\b", paragraph) is not None, f"{last}: {paragraph}")
-        check(paragraph.endswith(f"See kuzhlemor explain {number}."), paragraph)
-    return int(number) if kind in ("fault", "refused") else 0
+        return int(number)
+    begins = {
+        "halted": rf"Halted after {number} steps? of a budget of {image.budget}, by HLT in ring 0 at word",
+        "spent": rf"Spent: the budget of {number} steps? is used up, and the next",
+        "refused": rf"Refused with {number}\b.* See kuzhlemor explain {number}\.$",
+    }
+    check(re.match(begins[kind], paragraph) is not None, f"{last}: {paragraph}")
+    return int(number) if kind == "refused" else 0
 
 
 def damaged_images() -> None:
