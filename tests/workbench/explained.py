@@ -334,6 +334,17 @@ def damaged_images() -> None:
     check(came >= {2, 3, 4, 41, 42, 43, 44, 51}, f"a number that didn't come: {sorted(came)}")
 
 
+def without_comparison() -> None:
+    """Where no comparison says no, as it never is at a fault, that is said, whatever the number and the pointer."""
+    machine = Machine(Library(str(LIBRARY)), read_image((EXAMPLES / "case-12.img").read_bytes()))
+    reply = machine.run(9)
+    for pointer in (reply.pointer, Pointer(1, 3, 0), Pointer(0, 0, 0), Pointer(7, 4095, 65535)):
+        for number in range(64):
+            paragraph = explain._fault(machine, reply._replace(number=number, pointer=pointer))
+            check(paragraph.startswith(f"Fault {number} after 2 steps: "), paragraph)
+    check(NOT_FOUND in explain._fault(machine, reply._replace(pointer=Pointer(1, 3, 0))), "a comparison that doesn't say no")
+
+
 def streams() -> None:
     """Long listings, readers that go away, Ctrl-C, and what can't be read or written."""
     loop = assemble("memory 8\nbudget 4294967295\nsegment main rings 4 4 4 flags RE\nipr ring 4 main.0\nin main\nTRA +0\n")
@@ -343,6 +354,9 @@ def streams() -> None:
     long = endless[:-4] + (500_000).to_bytes(4, "big")
     answer = run(["sh", "-c", '"$@" | tail -n 1', "sh", COMMAND, "run", "--explain", "-"], long)
     check(answer.stdout == b"spent 500000 0\n" and b"of 500000 steps" in answer.stderr, f"a long listing: {answer}")
+    for simulate, library in (("/none", LIBRARY), (PROGRAMS / "simulate", "/none")):
+        answer = run(["python3", "-I", "-B", TOP / "tools" / "workbench", "run", EXAMPLES / "blend.img", simulate, library])
+        check(answer.returncode == 1 and b"kuzhlemor: what was built can't be used: " in answer.stderr, f"{answer}")
     interrupted(endless)
     check(read_image(b"".join([endless, bytes(BYTES_READ)])).refused.number == 42, "bytes after RN")
     answer = command(0, "run", "--explain", "-", data=endless + bytes(2 * BYTES_READ))
@@ -383,5 +397,6 @@ def interrupted(endless: bytes) -> None:
 def check_all() -> None:
     # The first use links the library.
     command(0, "run", "--explain", EXAMPLES / "case-12.img")
-    for part in (texts, numbers, examples, directed_ends, damaged_records, drawn_images, damaged_images, streams):
+    parts = (texts, numbers, examples, directed_ends, damaged_records, drawn_images, damaged_images, without_comparison, streams)
+    for part in parts:
         part()

@@ -8,9 +8,7 @@ import tempfile
 from typing import List, Optional, TextIO
 
 from .assemble import END_OF_TEXT, Assembled, assemble
-from .explain import explanation
 from .image import BYTES_READ, read_image
-from .library import Library
 from .questions import QUESTIONS, question_text, ranges
 from .show import show
 from .source import shown
@@ -156,16 +154,26 @@ def explain_number(argument: str) -> int:
 
 def run_explained(path: str, program: str, library: str) -> int:
     """The program's listing of an image, and then a paragraph on its last line."""
+    # Here alone: the other commands do without ctypes, which not every Python has.
+    try:
+        from .explain import explanation
+        from .library import Library
+    except ImportError as error:
+        raise Failed(f"run --explain: {error}") from None
     if sys.stdout is None:
         raise Failed("the listing couldn't be written")
     data = _read(path, BYTES_READ)
-    ran = subprocess.run([program], input=data, stderr=subprocess.PIPE)
+    try:
+        proved = Library(library)
+        ran = subprocess.run([program], input=data, stderr=subprocess.PIPE)
+    except OSError as error:
+        raise Failed(f"what was built can't be used: {error}") from None
     if ran.stderr:
         raise Failed(ran.stderr.decode("utf-8", "replace").rstrip("\n"))
-    if ran.returncode < 0:
-        # Ended by a signal, as where nobody reads on; a shell gives it this status.
-        return 128 - ran.returncode
-    return DONE if _note(explanation(read_image(data), Library(library))) else NO_ANSWER
+    if ran.returncode:
+        # By a signal, as where nobody reads on, it is what a shell would give.
+        return ran.returncode if ran.returncode > 0 else 128 - ran.returncode
+    return DONE if _note(explanation(read_image(data), proved)) else NO_ANSWER
 
 
 def _end(number: int, frame: object) -> None:
