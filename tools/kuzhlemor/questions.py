@@ -32,7 +32,7 @@ _BEFORE_A_RUN = (
         "registers: every field is within its range",
         "Is every ring at most 7, every segment number at most 4,095, every word number at most 65,535 and DBR's ADDRESS at most"
         " 16,777,215? Is the switch 0 or 1, and are the save and the handler segment at most 4,095?",
-        "After 1, before a run or a step; of an image once its RN has come. A check of a CALL asks it of the pointer too.",
+        "After 1, before a run, a step or a check of a CALL, there of the pointer too; of an image once its RN has come.",
         "Bytes of ST out of their place or with the low byte first, or a register that the host never set.",
         "IPR, PR0 to PR7, DBR and the switch in kuzhlemor show; its first lines name the one that is out of range.",
     ),
@@ -40,15 +40,15 @@ _BEFORE_A_RUN = (
         3,
         "registers: no PR's ring is below IPR's",
         "Is the RING of every PR at least IPR's?",
-        "After 2, before a run or a step; of an image once its RN has come.",
+        "After 2, before a run, a step or a check of a CALL; of an image once its RN has come.",
         "IPR starts in ring 4, say, and a PR was left at ring 0.",
         "The rings of PR0 to PR7 beside IPR's. A source that gives a PR no ring gives it IPR's.",
     ),
     Question(
         4,
         "DBR: LENGTH at most 4,096, and within memory",
-        "Is DBR's LENGTH at most 4,096, and do ADDRESS + LENGTH lie within memory?",
-        "After 3, before a run or a step; of an image once its RN has come. A table of brackets asks it after 1.",
+        "Is DBR's LENGTH at most 4,096, and is ADDRESS + LENGTH within memory?",
+        "After 3, before a run, a step or a check of a CALL; of an image once its RN has come. A table of brackets asks it after 1.",
         "A descriptor segment that was moved or made longer without its memory, or DBR's two numbers exchanged.",
         "DBR in kuzhlemor show, and the words of memory.",
     ),
@@ -60,8 +60,8 @@ _OF_A_SEGMENT = (
         11,
         "segment: its number is below DBR's LENGTH",
         "Is the segment's number below DBR's LENGTH?",
-        "First, whenever a segment is used: by a fetch, for a pointer word, for an operand, by a transfer or a CALL. Also of the"
-        " save segment, where a no keeps a fault from being delivered.",
+        "First, whenever a segment is used: by a fetch, for a pointer word, for an operand, by a transfer or a CALL. 11 to 14 are"
+        " also asked of the save segment; there a no keeps a fault from being delivered.",
         "A PR or a pointer word that was never set or was overwritten, or DBR's LENGTH is too small.",
         "The segment in the fault's line, where the pointer to it came from, and DBR's LENGTH.",
     ),
@@ -129,7 +129,7 @@ _BY_USE = (
         "transfer: the effective ring is IPR's",
         "Is the effective ring equal to IPR's?",
         "After 15, when TRA, TZE or TMI transfers; one that isn't taken asks nothing of its target.",
-        "The transfer goes through a PR or a pointer word of a higher ring. Only RETURN goes up, and only CALL goes down.",
+        "The transfer goes through a PR or a pointer word of a higher ring. RETURN is for going up, and CALL for going down.",
         "The ring in the fault's line against IPR's, and the pointer that raised it.",
     ),
     Question(
@@ -185,7 +185,7 @@ _BY_USE = (
         "pointer words: it is among the instruction's first 64",
         "Is the pointer word among the first 64 that the instruction reads?",
         "Before 11, for every pointer word.",
-        "Pointer words with I on that lead back to one another, or one that leads to itself.",
+        "Pointer words with I on that lead back to one another, or one that leads to itself; seldom a chain that is so long.",
         "I of the pointer words, from the one that the instruction names on.",
     ),
     Question(
@@ -194,7 +194,7 @@ _BY_USE = (
         "Is the instruction's opcode in the table?",
         "After 21, of the word that was fetched.",
         "The program goes on into data, or into words that are zero.",
-        "The word at IPR, and how the program came there: the line before the last one of the listing.",
+        "The word at IPR, and how the program came there: the listing's lines before the last.",
     ),
     Question(
         33,
@@ -207,7 +207,7 @@ _BY_USE = (
     Question(
         34,
         "new DBR: LENGTH at most 4,096, and within memory",
-        "Is LENGTH in the word that DBR is to become at most 4,096, and do ADDRESS + LENGTH lie within memory?",
+        "Is LENGTH in the word that DBR is to become at most 4,096, and is ADDRESS + LENGTH within memory?",
         "After 22, for LDBR of its operand and for RCU of word 3 of the frame.",
         "The operand isn't a DBR word: ADDRESS is in bits 0 to 23, LENGTH in bits 24 to 36.",
         "The word at the address in the fault's line; for RCU the one three words after it.",
