@@ -379,19 +379,19 @@ def streams() -> None:
 
 
 def interrupted(endless: bytes) -> None:
-    """A Ctrl-C ends the command at once, while it lists and while the library runs."""
-    options = {"stdin": subprocess.PIPE, "stdout": subprocess.DEVNULL, "stderr": subprocess.PIPE, "start_new_session": True}
-    workbench = ["python3", "-I", "-B", str(TOP / "tools" / "workbench"), "run", "-", "/bin/true", str(LIBRARY)]
-    for arguments in ([COMMAND, "run", "--explain", "-"], workbench):
-        started = subprocess.Popen(arguments, **options)
-        started.stdin.write(endless)
-        started.stdin.close()
-        time.sleep(0.5)
-        check(started.poll() is None, f"{arguments}: it ended by itself")
-        os.killpg(started.pid, signal.SIGINT)
-        check(started.wait(5) in (130, -signal.SIGINT), f"{arguments}: status {started.returncode}")
-        check(started.stderr.read() == b"", f"{arguments}: something was said")
-        started.stderr.close()
+    """A Ctrl-C ends the command at once, while it lists and while the library runs, which is after a stand-in's only line."""
+    options = {"stdin": subprocess.PIPE, "stdout": subprocess.PIPE, "stderr": subprocess.PIPE, "start_new_session": True}
+    workbench = ["python3", "-I", "-B", str(TOP / "tools" / "workbench"), "run", "-", "/bin/echo", str(LIBRARY)]
+    for arguments, first in (([COMMAND, "run", "--explain", "-"], b"1 4 0 0 0\n"), (workbench, b"\n")):
+        with subprocess.Popen(arguments, **options) as started:
+            started.stdin.write(endless)
+            started.stdin.close()
+            check(started.stdout.readline() == first, f"{arguments}: another line")
+            time.sleep(0.3)
+            check(started.poll() is None, f"{arguments}: it ended by itself")
+            os.killpg(started.pid, signal.SIGINT)
+            check(started.wait(20) == 130, f"{arguments}: status {started.returncode}")
+            check(started.stderr.read() == b"", f"{arguments}: something was said")
 
 
 def check_all() -> None:

@@ -48,7 +48,7 @@ _BEFORE_A_RUN = (
         4,
         "DBR: LENGTH at most 4,096, and within memory",
         "Is DBR's LENGTH at most 4,096, and is ADDRESS + LENGTH within memory?",
-        "After 3, before a run, a step or a check of a CALL; of an image once its RN has come. A table of brackets asks it after 1.",
+        "After 3, before a run, a step or a check of a CALL; of an image once its RN has come. For a table of brackets after 1.",
         "A descriptor segment that was moved or made longer without its memory, or DBR's two numbers exchanged.",
         "DBR in kuzhlemor show, and the words of memory.",
     ),
