@@ -3,13 +3,14 @@ descriptors; words of every kind; registers in and out of range; records in any 
 from random import Random
 from typing import List
 
-from kuzhlemor.image import Image, Registers, st_record, wd_record
+from kuzhlemor.image import Image, Registers, descriptor_question, descriptors, st_record, wd_record
 from kuzhlemor.words import (
     OPCODES,
     Descriptor,
     Instruction,
     Pointer,
     decode_descriptor,
+    decode_instruction,
     encode_descriptor,
     encode_instruction,
     encode_pointer,
@@ -169,6 +170,43 @@ def machine(random: Random, budget_most: int = 2**32 - 1) -> Image:
     image.budget = min(budget_most, random.choice((0, 9, 100, random.getrandbits(32))))
     if random.random() < 0.1:
         _spoil(random, registers, words)
+    return image
+
+
+def _put_operand(random: Random, image: Image, opcode: int, pointer: Pointer, address: int) -> None:
+    """What is seldom drawn: a pointer word that leads to itself, and for RCU a frame with a DBR that passes 34."""
+    if opcode == 42:
+        words = [random.getrandbits(3) << 28 for _ in range(13)]
+        words[3] = image.registers.dbr_address | image.registers.dbr_length << 24
+    else:
+        words = [encode_pointer(pointer, indirect=True)]
+    for k, word in enumerate(words):
+        if address + k < image.words:
+            image.memory[address + k] = word
+
+
+def runnable(random: Random, budget_most: int) -> Image:
+    """A machine whose first instruction can be fetched, mostly in ring 0 if it is privileged, and whose PRs point to words that are
+    there; if it has segments for that."""
+    image = machine(random, budget_most)
+    word = _instruction(random)
+    instruction = decode_instruction(word)
+    found = [(n, d) for n, d in descriptors(image).items() if d.length and descriptor_question(d, image.words) == 0]
+    programs = [(n, d) for n, d in found if d.execute]
+    if instruction.opcode >= 40:
+        programs = [(n, d) for n, d in programs if d.r1 == 0] or programs
+    if not programs:
+        return image
+    number, d = random.choice(programs)
+    registers = image.registers
+    registers.ipr = Pointer(random.choice((d.r1, random.randint(d.r1, d.r2))), number, random.randrange(d.length))
+    image.memory[d.address + registers.ipr.word] = word
+    for k in range(8):
+        number, operand = random.choice(found)
+        ring = max(registers.ipr.ring, random.choice((0, 0, random.getrandbits(3))))
+        registers.prs[k] = Pointer(ring, number, random.randrange(min(operand.length, 4)))
+        if instruction.p and instruction.prnum == k and instruction.offset == 0:
+            _put_operand(random, image, instruction.opcode, registers.prs[k], operand.address + registers.prs[k].word)
     return image
 
 

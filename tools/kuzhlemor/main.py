@@ -2,15 +2,18 @@
 import os
 import signal
 import stat
+import subprocess
 import sys
 import tempfile
-from typing import List
+from typing import List, Optional, TextIO
 
 from .assemble import END_OF_TEXT, Assembled, assemble
 from .image import BYTES_READ, read_image
+from .questions import QUESTIONS, question_text, ranges
 from .show import show
+from .source import shown
 
-# Statuses: an answer, none, and a text with mistakes.
+# Statuses: an answer, none, and what was written wrongly, a text or an argument.
 DONE, NO_ANSWER, MISTAKES = 0, 1, 2
 # More than a text for 8,192 words can need.
 SOURCE_MOST = 16_000_000
@@ -65,7 +68,7 @@ def _say(path: str, text: str, assembled: Assembled) -> None:
         said.append(f"{_named(path)}: and {len(assembled.mistakes) - MISTAKES_MOST} mistakes more\n")
     for line, column, warning in assembled.warnings:
         said.append(f"{_named(path)}:{line}:{column}: warning: {warning}\n")
-    sys.stderr.write("".join(said))
+    _note("".join(said))
 
 
 def _write(path: str, data: bytes) -> None:
@@ -91,19 +94,30 @@ def _write(path: str, data: bytes) -> None:
             os.unlink(part)
 
 
-def _print(data: bytes, what: str) -> None:
-    """Past Python's own buffer, of which it would complain once more as it ends."""
-    # None where standard output is closed.
-    if sys.stdout is None:
-        raise Failed(f"{what} couldn't be written")
+def _put(data: bytes, stream: Optional[TextIO]) -> bool:
+    """Past Python's own buffer, of which it would complain once more as it ends. False where that couldn't be."""
+    # None where it is closed.
+    if stream is None:
+        return False
     try:
         while data:
-            data = data[os.write(sys.stdout.fileno(), data) :]
+            data = data[os.write(stream.fileno(), data) :]
     except BrokenPipeError:
         # Nobody reads on.
         pass
     except OSError:
-        raise Failed(f"{what} couldn't be written") from None
+        return False
+    return True
+
+
+def _print(data: bytes, what: str) -> None:
+    if not _put(data, sys.stdout):
+        raise Failed(f"{what} couldn't be written")
+
+
+def _note(text: str) -> bool:
+    """On standard error."""
+    return _put(os.fsencode(text), sys.stderr)
 
 
 def assemble_file(source: str, image: str) -> int:
@@ -126,6 +140,42 @@ def show_file(path: str) -> int:
     return DONE
 
 
+def explain_number(argument: str) -> int:
+    """What the question of that number asks, and so on."""
+    digits = argument.lstrip("0")
+    is_number = argument.isascii() and argument.isdigit()
+    question = QUESTIONS.get(int(digits)) if is_number and 0 < len(digits) < 9 else None
+    if question is not None:
+        _print(question_text(question).encode("ascii"), "the text")
+        return DONE
+    _note(f"kuzhlemor: explain: {shown(argument)} is no question's number; those are {ranges(QUESTIONS)}\n")
+    return MISTAKES
+
+
+def run_explained(path: str, program: str, library: str) -> int:
+    """The program's listing of an image, and then a paragraph on its last line."""
+    # Here alone: the other commands do without ctypes, which not every Python has.
+    try:
+        from .explain import explanation
+        from .library import Library
+    except ImportError as error:
+        raise Failed(f"run --explain: {error}") from None
+    if sys.stdout is None:
+        raise Failed("the listing couldn't be written")
+    data = _read(path, BYTES_READ)
+    try:
+        proved = Library(library)
+        ran = subprocess.run([program], input=data, stderr=subprocess.PIPE)
+    except OSError as error:
+        raise Failed(f"what was built can't be used: {error}") from None
+    if ran.stderr:
+        raise Failed(ran.stderr.decode("utf-8", "replace").rstrip("\n"))
+    if ran.returncode:
+        # By a signal, as where nobody reads on, it is what a shell would give.
+        return ran.returncode if ran.returncode > 0 else 128 - ran.returncode
+    return DONE if _note(explanation(read_image(data), proved)) else NO_ANSWER
+
+
 def _end(number: int, frame: object) -> None:
     raise KeyboardInterrupt
 
@@ -138,9 +188,13 @@ def main(arguments: List[str]) -> int:
             return assemble_file(arguments[1], arguments[2])
         if len(arguments) == 2 and arguments[0] == "show":
             return show_file(arguments[1])
-        raise Failed("workbench: assemble SOURCE IMAGE, or show IMAGE")
+        if len(arguments) == 2 and arguments[0] == "explain":
+            return explain_number(arguments[1])
+        if len(arguments) == 4 and arguments[0] == "run":
+            return run_explained(*arguments[1:])
+        raise Failed("workbench: assemble SOURCE IMAGE, show IMAGE, explain NUMBER, or run IMAGE PROGRAM LIBRARY")
     except Failed as failed:
-        print(f"kuzhlemor: {failed}", file=sys.stderr)
+        _note(f"kuzhlemor: {failed}\n")
         return NO_ANSWER
     except KeyboardInterrupt:
         return 130

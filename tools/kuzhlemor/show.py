@@ -41,13 +41,13 @@ def _stretch(first: int, end: int, what: str) -> str:
     return f"{what}{'es' if what.endswith('s') else 's'} {first} to {end - 1}"
 
 
-def refusal_lines(refused: Refused) -> List[str]:
+def refusal_text(refused: Refused) -> str:
     """Which question refuses an image, and where."""
     if not refused.asked_of_record():
-        return [f"# REFUSED with {refused.number}, asked of ST once RN has come:", f"# {refused.why}."]
+        return f"with {refused.number}, asked of ST once RN has come"
     place = f"record {refused.record}, at byte {refused.offset}"
     found = f"its mark is {_mark(refused.mark)}" if refused.mark else "where the image ends"
-    return [f"# REFUSED with {refused.number} at {place} ({found}):", f"# {refused.why}."]
+    return f"with {refused.number} at {place} ({found})"
 
 
 def _mark(mark: bytes) -> str:
@@ -109,7 +109,7 @@ class _Show:
     def lines(self) -> List[str]:
         lines = []
         if self.image.refused is not None:
-            lines += refusal_lines(self.image.refused)
+            lines += [f"# REFUSED {refusal_text(self.image.refused)}:", f"# {self.image.refused.why}."]
             if self.image.refused.asked_of_record():
                 lines.append("# What the records before it hold:")
             lines.append("")

@@ -1,5 +1,5 @@
 """Words as document 01 lays them out: descriptors, pointer words, instructions, and the one table of the opcodes."""
-from typing import Callable, Dict, List, NamedTuple, Optional
+from typing import Callable, Dict, List, NamedTuple, Optional, Tuple
 
 WORD_MOST = 2**64 - 1
 
@@ -108,6 +108,11 @@ def pointer_is_indirect(word: int) -> bool:
 
 def encode_pointer(pointer: Pointer, indirect: bool = False) -> int:
     return pointer.word | pointer.segment << 16 | pointer.ring << 28 | indirect << 31
+
+
+def decode_dbr(word: int) -> Tuple[int, int]:
+    """DBR's ADDRESS and LENGTH as LDBR reads them; the other bits are ignored."""
+    return word & 0xFFFFFF, word >> 24 & 0x1FFF
 
 
 def decode_instruction(word: int) -> Instruction:
