@@ -1,9 +1,10 @@
 """docs/GUIDE.md as its reader follows it: its files are written, its commands run in one shell, and what they print compared."""
 import os
 import re
-import subprocess
 from pathlib import Path
 from typing import List, NamedTuple, Tuple
+
+from checks import TOP, check, run
 
 # A block with a file's name in its first line is that file; one of a console has commands after `$ `.
 _BLOCK = re.compile(r"^```(\S+)(?: (\S+))?\n(.*?)^```$", re.M | re.S)
@@ -39,16 +40,14 @@ def _pattern(printed: str) -> str:
     return "".join("(?:.*\n)*" if line == _ANY + "\n" else re.escape(line) for line in printed.splitlines(keepends=True))
 
 
-def differences(guide: str, top: Path, home: Path) -> Tuple[int, List[str]]:
-    """How many commands the guide has, and those that print something else. The shell starts in the clone, as the reader does."""
-    script, commands = _script(guide)
+def check_all(home: Path) -> None:
+    """The shell starts in the clone, as the reader does."""
+    script, commands = _script((TOP / "docs" / "GUIDE.md").read_text())
     environment = {"HOME": str(home), "PATH": os.environ["PATH"], "LC_ALL": "C"}
-    run = subprocess.run(["sh"], input=script, capture_output=True, text=True, cwd=top, env=environment)
-    printed = run.stdout.split(_END)
-    if len(printed) != len(commands) + 1:
-        return len(commands), [f"the shell ended after {len(printed) - 1} commands: {run.stdout}"]
-    return len(commands), [
-        f"{command.text}\nprinted:\n{was}the guide has:\n{command.printed}"
-        for command, was in zip(commands, printed)
-        if not re.fullmatch(_pattern(command.printed), was)
-    ]
+    said = run(["sh"], script.encode(), cwd=TOP, env=environment).stdout.decode()
+    printed = said.split(_END)
+    check(len(commands) > 20, "docs/GUIDE.md: its commands aren't found")
+    check(len(printed) == len(commands) + 1, f"docs/GUIDE.md: the shell ended early: {said[-500:]}")
+    for command, was in zip(commands, printed):
+        holds = re.fullmatch(_pattern(command.printed), was) is not None
+        check(holds, f"docs/GUIDE.md: $ {command.text}\nprinted:\n{was}and the guide has:\n{command.printed}")
