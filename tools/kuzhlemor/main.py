@@ -4,11 +4,15 @@ import signal
 import stat
 import sys
 import tempfile
+import time
 from typing import List
 
 from .assemble import END_OF_TEXT, Assembled, assemble
 from .image import BYTES_READ, read_image
+from .library import Library
+from .page import page
 from .show import show
+from .trace import Disagreement
 
 # Statuses: an answer, none, and a text with mistakes.
 DONE, NO_ANSWER, MISTAKES = 0, 1, 2
@@ -126,6 +130,41 @@ def show_file(path: str) -> int:
     return DONE
 
 
+class _Progress:
+    """How far a long work is, on standard error: once a second, and nothing within the first."""
+
+    def __init__(self) -> None:
+        self.said_at = time.monotonic()
+        self.is_terminal = sys.stderr is not None and sys.stderr.isatty()
+
+    def say(self, text: str) -> None:
+        if sys.stderr is None or time.monotonic() - self.said_at < 1:
+            return
+        self.said_at = time.monotonic()
+        text = f"kuzhlemor: {text}"
+        print(f"\r{text:<70}" if self.is_terminal else text, end="" if self.is_terminal else "\n", file=sys.stderr, flush=True)
+
+    def end(self) -> None:
+        if self.is_terminal:
+            print(f"\r{'':70}\r", end="", file=sys.stderr, flush=True)
+
+
+def page_file(path: str, program: str, library: str) -> int:
+    data = _read(path, BYTES_READ)
+    name = _named(path) if path == "-" else os.path.basename(path)
+    progress = _Progress()
+    try:
+        text = page(name, data, read_image(data), program, Library(library), progress.say)
+    except OSError as error:
+        raise Failed(f"{library}: can't be loaded: {error}") from None
+    except Disagreement as disagreement:
+        raise Failed(f"no page: {disagreement}") from None
+    finally:
+        progress.end()
+    _print(text.encode("utf-8", "replace"), "the page")
+    return DONE
+
+
 def _end(number: int, frame: object) -> None:
     raise KeyboardInterrupt
 
@@ -138,7 +177,9 @@ def main(arguments: List[str]) -> int:
             return assemble_file(arguments[1], arguments[2])
         if len(arguments) == 2 and arguments[0] == "show":
             return show_file(arguments[1])
-        raise Failed("workbench: assemble SOURCE IMAGE, or show IMAGE")
+        if len(arguments) == 4 and arguments[0] == "page":
+            return page_file(*arguments[1:])
+        raise Failed("workbench: assemble SOURCE IMAGE, show IMAGE, or page IMAGE PROGRAM LIBRARY")
     except Failed as failed:
         print(f"kuzhlemor: {failed}", file=sys.stderr)
         return NO_ANSWER
