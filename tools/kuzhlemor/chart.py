@@ -73,7 +73,7 @@ def pointer_path(run: Run) -> str:
         highest = max(run.pointer_words[first:end], default=0)
         if highest:
             height = max(2.0, highest / most * (POINTERS_HEIGHT - 2))
-            bars.append(f"M{column + 0.1:g} {POINTERS_HEIGHT}V{POINTERS_HEIGHT - height:g}H{column + 0.9:g}V{POINTERS_HEIGHT}Z")
+            bars.append(f"M{column + 0.2:g} {POINTERS_HEIGHT}v{-height:g}h.6v{height:g}Z")
     return "".join(bars)
 
 

@@ -112,9 +112,9 @@ class Machine:
         words = self.memory[dbr.address : min(dbr.address + dbr.length, self.words)]
         return {number: word for number, word in enumerate(words) if word}
 
-    def word_at_ipr(self) -> Optional[int]:
-        """The word to which IPR leads, if there is one; whether it may be fetched isn't asked."""
-        dbr, (_, segment, word) = self._registers.dbr, self.ipr()
+    def word_at(self, pointer: Pointer) -> Optional[int]:
+        """The word to which a pointer leads, if there is one; whether it may be read isn't asked."""
+        dbr, (_, segment, word) = self._registers.dbr, pointer
         if segment >= dbr.length or dbr.address + segment >= self.words:
             return None
         descriptor = self.memory[dbr.address + segment]

@@ -35,6 +35,8 @@ class MemoryMap(NamedTuple):
     # Whether bars may stand closer than their names allow, and how many have no room at all.
     is_dense: bool
     undrawn: int
+    # Those without a word in memory.
+    outside: List[int]
     descriptor_segment: Optional[Stretch]
     # Every address that several have, as stretches without a gap; and the first of them by who has them.
     shared: List[Tuple[int, int]]
@@ -106,11 +108,12 @@ def _shared(stretches: List[Stretch]) -> Tuple[List[Tuple[int, int]], List[Share
 def memory_map(image: Image, found: Dict[int, Descriptor]) -> MemoryMap:
     """The map of memory as the image starts, with its descriptors; as far as its records go where it is refused."""
     words = image.words or 0
-    every = [stretch_of(d, number, words) for number, d in found.items()]
-    stretches = sorted((stretch for stretch in every if stretch is not None), key=lambda s: (s.first, -s.end, s.segment))
+    every = {number: stretch_of(d, number, words) for number, d in found.items()}
+    outside = [number for number, stretch in every.items() if stretch is None]
+    stretches = sorted(filter(None, every.values()), key=lambda stretch: (stretch.first, -stretch.end, stretch.segment))
     lanes, undrawn = _pack(stretches, lambda stretch: _room(stretch, words))
     is_dense = undrawn > 0
     if is_dense:
         lanes, undrawn = _pack(stretches, lambda stretch: stretch.end)
     table = descriptor_segment(image)
-    return MemoryMap(lanes, is_dense, undrawn, table, *_shared(stretches + ([table] if table else [])))
+    return MemoryMap(lanes, is_dense, undrawn, outside, table, *_shared(stretches + ([table] if table else [])))

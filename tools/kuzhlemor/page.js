@@ -47,16 +47,15 @@
     row.classList.add("chosen");
     row.setAttribute("aria-selected", "true");
     listing.setAttribute("aria-activedescendant", row.id);
-    showRow(listing, row);
+    showRow(byId("listing-box"), row);
   }
 
   // Scrolls the listing alone, not the page.
-  function showRow(listing, row) {
-    const head = listing.querySelector("thead").offsetHeight;
-    const top = row.offsetTop - head;
+  function showRow(box, row) {
+    const top = row.offsetTop - box.querySelector("thead").offsetHeight;
     const bottom = row.offsetTop + row.offsetHeight;
-    if (top < listing.scrollTop) listing.scrollTop = top;
-    else if (bottom > listing.scrollTop + listing.clientHeight) listing.scrollTop = bottom - listing.clientHeight;
+    if (top < box.scrollTop) box.scrollTop = top;
+    else if (bottom > box.scrollTop + box.clientHeight) box.scrollTop = bottom - box.clientHeight;
   }
 
   function choose(entry) {

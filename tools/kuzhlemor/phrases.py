@@ -57,10 +57,6 @@ def performed_text(word: Optional[int], at: Optional[Pointer]) -> str:
     return text or f"{number_text(word)}, no opcode"
 
 
-def question_text(number: int) -> str:
-    return f"{number} ({QUESTIONS[number].short})"
-
-
 def fault_text(fault: Reply) -> str:
     """Which question says no, of which pointer."""
     return f"Question {fault.number}, asked of {pointer_text(fault.pointer)}: {QUESTIONS[fault.number].asks} No."
@@ -72,15 +68,17 @@ def entry_words(entry: Entry) -> EntryWords:
     did = performed_text(entry.word, entry.before)
     at = pointer_text(entry.before)
     now = pointer_text(entry.registers.ipr)
-    if entry.is_end:
-        said = fault_text(entry.fault) + " The fault ends the run; nothing was changed."
-        return EntryWords(f"The end: fault {entry.fault.number}", f"{did} at {at}", said, f"End: fault {entry.fault.number} at {at}: {did}")
     title = f"Step {entry.step:,}"
-    read = f"It read {counted(entry.pointer_words, 'pointer word')}." if entry.pointer_words else ""
+    read = f" It read {counted(entry.pointer_words, 'pointer word')}." if entry.pointer_words else ""
+    if entry.is_end:
+        fault = f"fault {entry.fault.number}"
+        said = f"{fault_text(entry.fault)} The fault ends the run, and nothing was changed."
+        said += f"{read[:-1]}, which the total leaves out." if read else ""
+        return EntryWords(f"The end: {fault}", f"{did} at {at}", said, f"End: {did} at {at}: {fault}")
     if entry.fault is not None:
-        said = f"{fault_text(entry.fault)} The fault was delivered to the handler. {read}"
-        return EntryWords(title, f"{did} at {at}", said.strip(), f"{title}: {did} at {at}: fault {entry.fault.number} delivered; then {now}")
-    return EntryWords(title, f"{did} at {at}", read, f"{title}: {did} at {at}; then {now}")
+        said = f"{fault_text(entry.fault)} The fault was delivered to the handler.{read}"
+        return EntryWords(title, f"{did} at {at}", said, f"{title}: {did} at {at}: fault {entry.fault.number} delivered; then {now}")
+    return EntryWords(title, f"{did} at {at}", read.strip(), f"{title}: {did} at {at}; then {now}")
 
 
 def _refusal(refused: Refused) -> str:

@@ -16,6 +16,7 @@ LANE_HEIGHT = 28
 TICKS_MOST = 16
 # Of the marks on shared words; more wouldn't be seen.
 MARKS_MOST = 400
+NAMED_MOST = 20
 FOOTER = (
     "Every answer on this page is that of the proved library or the proved program. s4.1 is word 1 of segment 4."
     " This file needs no network."
@@ -38,9 +39,8 @@ def outcome_class(image: Image, run: Optional[Run]) -> str:
 
 def outcome(image: Image, run: Optional[Run]) -> str:
     question = end_question(image, run)
-    line = ""
-    if run is not None:
-        line = f"<span>The listing's last line: <code>{escape(run.last_line)}</code></span>"
+    last = f"refused {image.refused.number}" if run is None else run.last_line
+    line = f"<span>The listing's last line: <code>{last}</code></span>"
     return escape(end_text(image, run)) + (f"<span>{escape(question)}</span>" if question else "") + line
 
 
@@ -137,6 +137,18 @@ def _shared_list(drawn: MemoryMap, found: Dict[int, Descriptor], dbr_address: in
     return f'<h3 class="later">Words in several segments</h3><ul class="shared">{items}</ul>'
 
 
+def _undrawn(drawn: MemoryMap) -> str:
+    said = ""
+    if drawn.undrawn:
+        said += f"<p>{counted(drawn.undrawn, 'segment')} more would need further lanes and aren't drawn; the table below has all.</p>"
+    if drawn.outside:
+        names = [segment_name(number) for number in drawn.outside[:NAMED_MOST]]
+        if len(drawn.outside) > len(names):
+            names.append(f"{len(drawn.outside) - len(names):,} more")
+        said += f"<p>Without a word in memory, and so not drawn: {', '.join(names)}.</p>"
+    return said
+
+
 def memory(image: Image, found: Dict[int, Descriptor]) -> str:
     """The map, as the image starts."""
     words = image.words or 0
@@ -146,17 +158,15 @@ def memory(image: Image, found: Dict[int, Descriptor]) -> str:
     drawn = memory_map(image, found)
     bars = "".join(_bar(stretch, lane, words, found) for lane, some in enumerate(drawn.lanes) for stretch in some)
     height = max(len(drawn.lanes), 1) * LANE_HEIGHT
-    undrawn = ""
-    if drawn.undrawn:
-        undrawn = f"<p>{counted(drawn.undrawn, 'segment')} more lie over these and aren't drawn; the table below has all.</p>"
     dbr_address = image.registers.dbr_address if image.registers else 0
+    choose = "" if image.refused else ' <span class="scripted">Choose a segment to learn where a CALL may go.</span>'
     return f"""<section id="memory"><h2>Memory</h2>
 <p class="note">Addresses from left to right, as the image starts. Each segment is a bar; segments that overlap stand in lanes below each
-other. <span class="scripted">Choose a segment to learn where a CALL may go.</span></p>
+other.{choose}</p>
 <div class="map">{_table_track(drawn.descriptor_segment, words)}
 <div class="track-name">Segments</div><div class="track ground pick{' dense' if drawn.is_dense else ''}" style="height:{height}px">{bars}</div>
 {_shared_track(drawn, words)}{_axis(words)}</div>
-{undrawn}{_shared_list(drawn, found, dbr_address)}</section>"""
+{_undrawn(drawn)}{_shared_list(drawn, found, dbr_address)}</section>"""
 
 
 # Segments.
@@ -273,7 +283,7 @@ def _listing_row(k: int, entry: Entry) -> str:
     event = _event(entry)
     did = escape(performed_text(entry.word, entry.before))
     did = (f"<code>{did}</code>" if did else "") + (f' <span class="event">{event}</span>' if event else "")
-    return f'<tr id="e{k}" role="row" aria-selected="false">{cells}<td>{did}</td></tr>'
+    return f'<tr id="e{k}" aria-selected="false">{cells}<td>{did}</td></tr>'
 
 
 def _listing(run: Run, found: Sequence[Entry]) -> str:
@@ -285,11 +295,10 @@ def _listing(run: Run, found: Sequence[Entry]) -> str:
             rows.append(f'<tr class="gap"><td colspan="6">{left_out} left out</td></tr>')
         rows.append(_listing_row(k, entry))
         expected = entry.step + 1
-    last = escape(run.last_line)
-    return f"""<div class="scroll listing" id="listing" tabindex="0" role="grid" aria-label="Listing" aria-readonly="true"><table role="presentation">
-<thead><tr role="row"><th class="n">Step</th><th class="n">Ring</th><th class="n">Segment</th><th class="n">Word</th>
+    return f"""<div class="scroll listing" id="listing-box"><table id="listing" tabindex="0" role="grid" aria-label="Listing" aria-readonly="true">
+<thead><tr><th class="n">Step</th><th class="n">Ring</th><th class="n">Segment</th><th class="n">Word</th>
 <th class="n" title="Pointer words that the step read">Pointers</th><th>Performed</th></tr></thead>
-<tbody>{''.join(rows)}<tr class="last"><td colspan="6"><code>{last}</code></td></tr></tbody></table></div>"""
+<tbody>{''.join(rows)}<tr class="last"><td colspan="6"><code>{run.last_line}</code></td></tr></tbody></table></div>"""
 
 
 def _kept_text(run: Run, kept: Kept) -> str:
@@ -297,11 +306,11 @@ def _kept_text(run: Run, kept: Kept) -> str:
     if not kept.each:
         return ""
     count, have = run.count(), len(kept.steps) - 1
+    moves = f"all {kept.moves:,}" if kept.moves <= kept.each else f"{kept.each:,} of the {kept.moves:,}"
     return (
         f'<p class="thinned"><strong>{counted(count, "step")} were followed. {have:,} of them are kept here, {count - have:,} are left out'
-        f"</strong> of the listing and the registers. Kept are the first and the last {kept.each:,}, up to {kept.each:,} of the"
-        f" {counted(kept.moves, 'step')} with a call, a return, a delivered fault or another ring, and {kept.each:,} evenly spaced."
-        f" The chart is drawn from all steps.</p>"
+        f"</strong> of the listing and the registers. Kept are the first and the last {kept.each:,}, {moves} with a call, a return, a"
+        f" delivered fault or another ring, and {kept.each:,} evenly spaced. The chart is drawn from all steps.</p>"
     )
 
 

@@ -72,18 +72,19 @@ def follow(library: Library, image: Image, data: bytes, program: str, say: Calla
     budget = min(image.budget, STEPS_MOST)
     listing = io.BytesIO(listing_of(program, with_budget(data, budget)))
     machine = Machine(library, image)
-    run = Run(machine.ipr())
+    ipr = machine.ipr()
+    run = Run(ipr)
     end = Reply(SPENT, 0, budget, Pointer(0, 0, 0), 0)
     for step in range(1, budget + 1):
-        word = machine.word_at_ipr()
+        word = machine.word_at(ipr)
         reply, fault = machine.step_and_fault()
         if reply.kind == FAULT:
             end = reply._replace(count=step - 1)
             break
-        ring, segment, number = machine.ipr()
-        if listing.readline() != b"%d %d %d %d %d\n" % (step, ring, segment, number, reply.pointer_words):
+        ipr = machine.ipr()
+        if listing.readline() != b"%d %d %d %d %d\n" % (step, *ipr, reply.pointer_words):
             raise Disagreement(f"the library and the listing differ at step {step}")
-        run.rings.append(ring)
+        run.rings.append(ipr.ring)
         run.pointer_words.append(reply.pointer_words)
         run.events.append(event_of(word, fault))
         if reply.kind == HALTED:
@@ -155,11 +156,12 @@ def entries(library: Library, image: Image, run: Run, steps: Sequence[int]) -> I
             continue
         machine.run(step - 1 - done)
         done = step
-        before, word = machine.ipr(), machine.word_at_ipr()
+        before = machine.ipr()
+        word = machine.word_at(before)
         reply, fault = machine.step_and_fault()
         if machine.ipr().ring != run.rings[step]:
             raise Disagreement(f"the library's runs and steps differ at step {step}")
         yield Entry(step, False, reply.pointer_words, event_of(word, fault), before, word, fault, machine.registers()), machine
     if run.is_fault():
-        end = run.end
-        yield Entry(done + 1, True, end.pointer_words, NOTHING, machine.ipr(), machine.word_at_ipr(), end, machine.registers()), machine
+        end, at = run.end, machine.ipr()
+        yield Entry(done + 1, True, end.pointer_words, NOTHING, at, machine.word_at(at), end, machine.registers()), machine
