@@ -10,7 +10,8 @@ MARKS_MOST = 60
 RING_HEIGHT = 21
 HEIGHT = 8 * RING_HEIGHT
 POINTERS_HEIGHT = 36
-TICKS_MOST = 8
+# Labels below the chart; fewer where they are long.
+TICKS_MOST, LONG_TICKS_MOST, LONG = 8, 4, 10_000
 MARK_IDS = {CALL: "mark-call", RETURN: "mark-return", DELIVERED: "mark-delivered"}
 END_ID = "mark-fault"
 
@@ -104,5 +105,6 @@ def _mark(name: str, percent: float, ring: int) -> str:
 def ticks(run: Run) -> List[Tick]:
     """Steps at round numbers, the start among them."""
     count = run.count()
-    distance = next(m * 10**k for k in range(9) for m in (1, 2, 5) if count // (m * 10**k) <= TICKS_MOST)
+    most = TICKS_MOST if count < LONG else LONG_TICKS_MOST
+    distance = next(m * 10**k for k in range(9) for m in (1, 2, 5) if count // (m * 10**k) <= most)
     return [Tick(step, percent_of(run, step)) for step in range(0, count + 1, distance)]

@@ -47,7 +47,6 @@
     row.classList.add("chosen");
     row.setAttribute("aria-selected", "true");
     listing.setAttribute("aria-activedescendant", row.id);
-    showRow(byId("listing-box"), row);
   }
 
   // Scrolls the listing alone, not the page.
@@ -59,10 +58,10 @@
   }
 
   function choose(entry) {
-    if (!data.entries.length) return;
     state.entry = Math.max(0, Math.min(data.entries.length - 1, entry));
     showStep();
     showSegment();
+    showRow(byId("listing-box"), byId("e" + state.entry));
   }
 
   // The entry whose place in the chart is nearest.
@@ -168,6 +167,6 @@
       choose(nearest(((event.clientX - box.left) * 100) / box.width));
     });
   }
-  choose(0);
+  if (data.entries.length) showStep();
   showSegment();
 })();

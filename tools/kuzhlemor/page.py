@@ -18,7 +18,7 @@ from .words import decode_descriptor, descriptor_text
 
 # The page's size in bytes stays below this.
 BYTES_MOST = 5_000_000
-STEPS_KEPT = 2_000
+STEPS_KEPT = 1_000
 # How often the library is asked for all of a page, which bounds the steps that are kept where there are many segments.
 ASKS_MOST = 1_000_000
 _FOLDER = Path(__file__).resolve().parent

@@ -1,6 +1,6 @@
 """The page's sections as HTML: what they show stands there without the script too."""
 from html import escape
-from typing import Dict, List, Optional, Sequence
+from typing import Dict, List, Optional, Sequence, Tuple
 
 from . import chart
 from .image import Image, descriptor_question, segment_name
@@ -17,6 +17,9 @@ TICKS_MOST = 16
 # Of the marks on shared words; more wouldn't be seen.
 MARKS_MOST = 400
 NAMED_MOST = 20
+# A longer table of segments is several, of which a browser lays out those in view; about a row's height in pixels.
+ROWS_MOST = 100
+ROW_HEIGHT = 56
 FOOTER = (
     "Every answer on this page is that of the proved library or the proved program. s4.1 is word 1 of segment 4."
     " This file needs no network."
@@ -221,6 +224,14 @@ _STRIP_LEGEND = """<ul class="legend"><li><b class="key write"></b>W write: ring
 <li><b class="key gate"></b>G call at a gate: R2 + 1 to R3</li><li><b class="key broken"></b>broken line: off</li></ul>"""
 
 
+def _segment_table(items: Sequence[Tuple[int, Descriptor]], words: int) -> str:
+    notes = [_notes(d, words) for _, d in items]
+    head = _SEGMENT_HEAD + ('<th scope="col">Note</th></tr>' if any(notes) else "</tr>")
+    rows = "".join(_segment_row(number, d, note if any(notes) else None) for (number, d), note in zip(items, notes))
+    height = len(items) * ROW_HEIGHT
+    return f"""<div class="chunk" style="contain-intrinsic-height:auto {height}px"><table><thead>{head}</thead><tbody>{rows}</tbody></table></div>"""
+
+
 def _later(later: Sequence[int]) -> str:
     if not later:
         return ""
@@ -243,11 +254,9 @@ def segments(image: Image, found: Dict[int, Descriptor], later: Sequence[int]) -
     """Every segment with a descriptor as the image starts, and where a CALL may go."""
     words = image.words or 0
     if found:
-        notes = [_notes(d, words) for d in found.values()]
-        head = _SEGMENT_HEAD + ('<th scope="col">Note</th></tr>' if any(notes) else "</tr>")
-        rows = "".join(_segment_row(number, d, note if any(notes) else None) for (number, d), note in zip(found.items(), notes))
-        table = f"""<div class="scroll segments pick" tabindex="0" role="region" aria-label="Segments"><table>
-<thead>{head}</thead><tbody>{rows}</tbody></table></div>{_STRIP_LEGEND}"""
+        items = list(found.items())
+        tables = "".join(_segment_table(items[k : k + ROWS_MOST], words) for k in range(0, len(items), ROWS_MOST))
+        table = f"""<div class="scroll segments pick" tabindex="0" role="region" aria-label="Segments">{tables}</div>{_STRIP_LEGEND}"""
     else:
         table = "<p>No segment has a descriptor.</p>"
     panel = _call_panel(image.refused is not None) if found or later else ""
@@ -265,11 +274,12 @@ def listing_line(entry: Entry) -> str:
 
 
 def _event(entry: Entry) -> str:
+    """The marks are drawn by their classes: many drawings would take a browser long."""
     if entry.is_end:
-        return f'{_icon(chart.END_ID)}fault {entry.fault.number}'
+        return f'<span class="event fault">fault {entry.fault.number}</span>'
     if entry.event == DELIVERED:
-        return f'{_icon(chart.MARK_IDS[DELIVERED])}fault {entry.fault.number} delivered'
-    return _icon(chart.MARK_IDS[entry.event]) + _EVENT_NAMES[entry.event] if entry.event else ""
+        return f'<span class="event delivered">fault {entry.fault.number} delivered</span>'
+    return f'<span class="event {_EVENT_NAMES[entry.event]}">{_EVENT_NAMES[entry.event]}</span>' if entry.event else ""
 
 
 def _icon(name: str) -> str:
@@ -280,9 +290,8 @@ def _listing_row(k: int, entry: Entry) -> str:
     first = "start" if entry.step == 0 else "end" if entry.is_end else str(entry.step)
     numbers: Sequence[object] = ("", "", "", "") if entry.is_end else (*entry.registers.ipr, entry.pointer_words)
     cells = "".join(f'<td class="n">{number}</td>' for number in (first, *numbers))
-    event = _event(entry)
     did = escape(performed_text(entry.word, entry.before))
-    did = (f"<code>{did}</code>" if did else "") + (f' <span class="event">{event}</span>' if event else "")
+    did = f"<code>{did}</code> {_event(entry)}" if did else ""
     return f'<tr id="e{k}" aria-selected="false">{cells}<td>{did}</td></tr>'
 
 
@@ -331,9 +340,10 @@ def _pointer_track(run: Run, columns: int) -> str:
 
 
 def _tick(tick: chart.Tick) -> str:
-    """A label that would leave the chart stands before its place."""
-    side = ' class="left"' if tick.percent > 88 else ""
-    return f'<span{side} style="left:{tick.percent:g}%">{f"{tick.step:,}" if tick.step else "start"}</span>'
+    """Below its place; a long label that would leave the chart stands before it."""
+    text = f"{tick.step:,}" if tick.step else "start"
+    side = "middle end" if tick.percent > 96 and len(text) > 6 else "middle"
+    return f'<span class="{side}" style="left:{tick.percent:g}%">{text}</span>'
 
 
 def _chart_note(run: Run, has_area: bool) -> str:
