@@ -18,13 +18,14 @@ from checks import COMMAND, EXAMPLES, LIBRARY, PROGRAMS, TOP, check, command, fa
 from kuzhlemor import page as page_module
 from kuzhlemor.assemble import assemble
 from kuzhlemor.calls import Calls, parts
-from kuzhlemor.image import Image, Registers, descriptor_words, read_image, write_image
+from kuzhlemor.image import Image, Registers, descriptor_question, descriptor_words, descriptors, read_image, write_image
 from kuzhlemor.library import Library, Machine
+from kuzhlemor.memory_map import memory_map
 from kuzhlemor.page import BYTES_MOST, page
 from kuzhlemor.trace import STEPS_MOST, with_budget
 from kuzhlemor.words import Descriptor, Pointer, decode_descriptor, descriptor_text, encode_descriptor
 
-ANSWERED, DAMAGED = 1_000, 1_000
+ANSWERED, DAMAGED, DRAWN = 1_000, 1_000, 300
 # Of a range with more words the C program is asked for so many at either end.
 ASKED_MOST = 400
 # A laboratory's program that goes through a gate into ring 1 and back for ever.
@@ -284,6 +285,94 @@ def split_ranges() -> None:
         check([(found.first, found.last) for found in ranges] == wanted, f"{part}: {ranges}")
 
 
+def check_map(image: Image, text: str, what: str) -> None:
+    """Every segment with words in memory has one bar, bars of a lane lie apart, and the words of several are those by a count of each."""
+    found, words = descriptors(image), image.words
+    drawn_map = memory_map(image, found)
+    having: List[List[int]] = [[] for _ in range(words)]
+    for number, d in found.items():
+        for address in range(d.address, min(d.address + d.length, words)):
+            having[address].append(number)
+    dbr = range(image.registers.dbr_address, image.registers.dbr_address + image.registers.dbr_length)
+    several = {address for address in range(words) if len(having[address]) + (address in dbr) > 1}
+    check(several == {a for first, end in drawn_map.shared for a in range(first, end)}, f"{what}: words of several segments")
+    if not drawn_map.unlisted:
+        check(several == {a for shared in drawn_map.listed for a in range(shared.first, shared.end)}, f"{what}: words listed")
+    for shared in drawn_map.listed:
+        for address in range(shared.first, shared.end):
+            check(shared.count == len(having[address]) + (address in dbr), f"{what}: how many have address {address}")
+            named = {stretch.segment for stretch in shared.named if stretch.segment is not None}
+            check(named <= set(having[address]), f"{what}: who has address {address}")
+    for lane in drawn_map.lanes:
+        check(all(one.end <= other.first for one, other in zip(lane, lane[1:])), f"{what}: bars over each other")
+    bars = sorted(stretch.segment for lane in drawn_map.lanes for stretch in lane)
+    check(bars == sorted({number for some in having for number in some}), f"{what}: bars {bars}")
+    check(sorted(map(int, re.findall(r'class="bar[^"]*" data-segment="(\d+)"', text))) == bars, f"{what}: bars on the page")
+
+
+def check_strips(image: Image, text: str, what: str) -> None:
+    """Each ring of each strip is in the brackets that document 01 gives it, and what is off is shown as off."""
+    found = descriptors(image)
+    rows = {int(number): row for number, row in re.findall(r'<tr[^>]* data-segment="(\d+)">(.*?)</tr>', text, re.DOTALL)}
+    check(set(rows) == set(found), f"{what}: rows {set(rows)}")
+    for number, d in found.items():
+        strip = re.search(r'<i class="([a-z ]*)" style="([^"]*)"', rows[number])
+        check((strip is None) == (not d.r1 <= d.r2 <= d.r3), f"{what}: a strip of segment {number}")
+        question = descriptor_question(d, image.words)
+        check((f"every use is fault {question}" in rows[number]) == (question > 0), f"{what}: segment {number} fails {question}")
+        if strip is None:
+            continue
+        sizes = {name: int(size) for name, size in re.findall(r"--(\w):(\d+)", strip.group(2))}
+        for ring in range(8):
+            shown = [ring < sizes["w"], ring < sizes["r"], 0 <= ring - sizes["x"] < sizes["e"], 0 <= ring - sizes["y"] < sizes["g"]]
+            check(shown == [ring <= d.r1, ring <= d.r2, d.r1 <= ring <= d.r2, d.r2 < ring <= d.r3], f"{what}: segment {number}, ring {ring}")
+        off = {name for name, on in zip("wreg", (d.write, d.read, d.execute, d.execute and d.gate)) if not on}
+        check(set(strip.group(1).split()) == off, f"{what}: segment {number}: off are {off}")
+
+
+def _levels(path: str) -> List[List[int]]:
+    """The rings along each line of a chart's path, a column each."""
+    lines: List[List[int]] = []
+    height = 0.0
+    for letter, number, more in re.findall(r"([MHV])([\d.]+)(?: ([\d.]+))?", path):
+        if letter == "H":
+            lines[-1] += [7 - int(height / 21)] * (int(number) - len(lines[-1]))
+        else:
+            height = float(more or number)
+            if letter == "M":
+                lines.append([])
+    return lines
+
+
+def check_chart(text: str, lines: List[str], start: int, what: str) -> None:
+    """The chart's line has the ring of each step, or of each column the highest and the lowest."""
+    if 'id="chart"' not in text:
+        fail(f"{what}: no chart")
+    rings = [start, *(int(line.split()[1]) for line in lines[:-1])]
+    rings += rings[-1:] if lines[-1].startswith("fault") else []
+    columns = min(len(rings), 800)
+    parted = [rings[k * len(rings) // columns : (k + 1) * len(rings) // columns] for k in range(columns)]
+    drawn_lines = _levels(re.search(r'class="ring-line" d="([^"]*)"', text).group(1))
+    check(drawn_lines[0] == [max(part) for part in parted], f"{what}: the highest rings of the chart")
+    check(drawn_lines[-1] == [min(part) for part in parted], f"{what}: the lowest rings of the chart")
+
+
+def drawings() -> None:
+    """Map, strips and chart of random images, and the chart of a long run."""
+    random = Random(15)
+    for k in range(DRAWN):
+        image = drawn.machine(random, budget_most=60)
+        data = b"".join(drawn.records(random, image))
+        image = read_image(data)
+        text = page_of(data)
+        if image.refused is None:
+            check_map(image, text, f"image {k}")
+            check_strips(image, text, f"image {k}")
+            check_chart(text, program("simulate", data).splitlines(), image.registers.ipr.ring, f"image {k}")
+    data = with_budget(image_of(ENDLESS), 5000)
+    check_chart(page_of(data), program("simulate", data).splitlines(), 4, "5,000 steps")
+
+
 def long_run(asked: Asked) -> None:
     """A budget of four thousand million: a million steps are followed and thinned, with progress; the page says so."""
     data = image_of(ENDLESS)
@@ -373,6 +462,7 @@ def hostile_images() -> None:
     name = "</script><script>alert(1)</script>&\"'\x1b\udcff"
     text = page_of(data, name)
     check_text(text, "a name like markup")
+    check("<" not in page_module._json("</script><!--"), "what is embedded could end its element")
     check("<script>alert" not in text and "&lt;/script&gt;&lt;script&gt;alert(1)" in text, "a name like markup")
 
 
@@ -415,5 +505,5 @@ def check_all() -> None:
     for part in (examples, random_images, changing, long_run, many_segments):
         part(asked)
     asked.compare()
-    for part in (split_ranges, damaged_images, hostile_images, ends):
+    for part in (split_ranges, drawings, damaged_images, hostile_images, ends):
         part()

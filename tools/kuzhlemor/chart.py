@@ -2,6 +2,7 @@
 columns, a column shows the lowest and the highest ring of its steps and the most pointer words."""
 from typing import List, NamedTuple, Tuple
 
+from .phrases import counted
 from .trace import CALL, DELIVERED, NOTHING, RETURN, Run
 
 COLUMNS_MOST = 800
@@ -13,15 +14,16 @@ POINTERS_HEIGHT = 36
 # Labels below the chart; fewer where they are long.
 TICKS_MOST, LONG_TICKS_MOST, LONG = 8, 4, 10_000
 MARK_IDS = {CALL: "mark-call", RETURN: "mark-return", DELIVERED: "mark-delivered"}
+EVENT_NAMES = {CALL: "call", RETURN: "return", DELIVERED: "delivered fault"}
 END_ID = "mark-fault"
 
 
-class Tick(NamedTuple):
+class _Tick(NamedTuple):
     step: int
     percent: float
 
 
-def slots(run: Run) -> int:
+def _slots(run: Run) -> int:
     """How many places there are: the start, each step, and the fault that ends the run."""
     return run.count() + 1 + run.is_fault()
 
@@ -32,7 +34,7 @@ def _y(ring: int) -> float:
 
 def _columns(run: Run) -> List[Tuple[int, int]]:
     """The steps of each column, from the first up to the end."""
-    count = slots(run)
+    count = _slots(run)
     columns = min(count, COLUMNS_MOST)
     return [(k * count // columns, (k + 1) * count // columns) for k in range(columns)]
 
@@ -52,7 +54,7 @@ def _edge(levels: List[int]) -> str:
     return "".join(path) + f"H{len(levels)}"
 
 
-def ring_paths(run: Run) -> Tuple[int, str, str]:
+def _ring_paths(run: Run) -> Tuple[int, str, str]:
     """The number of columns, the line (two where columns have several rings) and what lies between the two."""
     band = _band(run)
     lows, highs = [low for low, _ in band], [high for _, high in band]
@@ -62,13 +64,13 @@ def ring_paths(run: Run) -> Tuple[int, str, str]:
     return len(band), _edge(highs) + _edge(lows), area + "Z"
 
 
-def most_pointer_words(run: Run) -> int:
+def _most_pointer_words(run: Run) -> int:
     return max(run.pointer_words)
 
 
-def pointer_path(run: Run) -> str:
+def _pointer_path(run: Run) -> str:
     """Bars as high as a column's most pointer words, in a box of that many columns and POINTERS_HEIGHT."""
-    most = most_pointer_words(run)
+    most = _most_pointer_words(run)
     bars = []
     for column, (first, end) in enumerate(_columns(run)):
         highest = max(run.pointer_words[first:end], default=0)
@@ -80,14 +82,14 @@ def pointer_path(run: Run) -> str:
 
 def percent_of(run: Run, slot: int) -> float:
     """The middle of a place, in hundredths of the width."""
-    return round((slot + 0.5) * 100 / slots(run), 3)
+    return round((slot + 0.5) * 100 / _slots(run), 3)
 
 
-def marks(run: Run) -> List[str]:
+def _marks(run: Run) -> List[str]:
     """The events, and the fault at the end, as uses of the marks."""
     found = []
     drawn = set()
-    count = slots(run)
+    count = _slots(run)
     for step, event in enumerate(run.events):
         place = (event, step * MARKS_MOST // count)
         if event != NOTHING and (count <= MARKS_MOST or place not in drawn):
@@ -102,9 +104,67 @@ def _mark(name: str, percent: float, ring: int) -> str:
     return f'<use href="#{name}" x="{percent:g}%" y="{_y(ring):g}"/>'
 
 
-def ticks(run: Run) -> List[Tick]:
+def _ticks(run: Run) -> List[_Tick]:
     """Steps at round numbers, the start among them."""
     count = run.count()
     most = TICKS_MOST if count < LONG else LONG_TICKS_MOST
     distance = next(m * 10**k for k in range(9) for m in (1, 2, 5) if count // (m * 10**k) <= most)
-    return [Tick(step, percent_of(run, step)) for step in range(0, count + 1, distance)]
+    return [_Tick(step, percent_of(run, step)) for step in range(0, count + 1, distance)]
+
+
+def _icon(name: str) -> str:
+    return f'<svg viewBox="-8 -8 16 16" aria-hidden="true"><use href="#{name}"/></svg>'
+
+
+def _legend(run: Run) -> str:
+    items = []
+    for event, name in EVENT_NAMES.items():
+        times = run.events.count(event)
+        if times:
+            items.append(f"<li>{_icon(MARK_IDS[event])}{counted(times, name)}</li>")
+    if run.is_fault():
+        items.append(f"<li>{_icon(END_ID)}the fault that ends the run</li>")
+    return f'<ul class="legend">{"".join(items)}</ul>' if items else ""
+
+
+def _pointer_track(run: Run, columns: int) -> str:
+    return f"""<svg height="{POINTERS_HEIGHT}" viewBox="0 0 {columns} {POINTERS_HEIGHT}" preserveAspectRatio="none" class="pointers">
+<path class="pointer-bars" d="{_pointer_path(run)}"/></svg>"""
+
+
+def _tick(tick: _Tick) -> str:
+    """Below its place; a long label that would leave the chart stands before it."""
+    text = f"{tick.step:,}" if tick.step else "start"
+    side = "middle end" if tick.percent > 96 and len(text) > 6 else "middle"
+    return f'<span class="{side}" style="left:{tick.percent:g}%">{text}</span>'
+
+
+def _chart_note(run: Run, has_area: bool) -> str:
+    said = [f"The steps read {counted(run.total, 'pointer word')}." if run.total else "No step read a pointer word."]
+    if has_area:
+        said.append("Where the rings of many steps share a place, the lowest and the highest are drawn.")
+    if _slots(run) > MARKS_MOST:
+        said.append("A mark may stand for several.")
+    return " ".join(said)
+
+
+def drawing(run: Run) -> str:
+    """The chart as HTML, with its legend; the script moves the cursor in it."""
+    columns, line, area = _ring_paths(run)
+    grid = "".join(
+        f'<line class="grid" x1="0" x2="100%" y1="{y:g}" y2="{y:g}"/>'
+        for y in (RING_HEIGHT * (k + 0.5) for k in range(8))
+    )
+    most = _most_pointer_words(run)
+    names = "".join(f"<div>{'ring ' if ring == 7 else ''}{ring}</div>" for ring in range(7, -1, -1))
+    names += f'<div class="pointer-name">pointers,<br>up to {most}</div>' if most else ""
+    labels = "".join(_tick(tick) for tick in _ticks(run))
+    shape = f'<path class="ring-area" d="{area}"/>' if area else ""
+    return f"""<div class="chart-box"><div class="chart-names" aria-hidden="true">{names}</div>
+<div class="chart-area" id="chart" tabindex="0" role="slider" aria-label="Ring after each step" aria-valuemin="0"
+aria-valuemax="{_slots(run) - 1}" aria-valuenow="0">
+<svg height="{HEIGHT}" aria-hidden="true">{grid}<svg width="100%" height="{HEIGHT}" viewBox="0 0 {columns} {HEIGHT}"
+preserveAspectRatio="none">{shape}<path class="ring-line" d="{line}"/></svg>{''.join(_marks(run))}</svg>
+{_pointer_track(run, columns) if most else ""}<div class="cursor scripted" id="cursor"></div></div>
+<div></div><div class="axis" aria-hidden="true">{labels}</div></div>
+<p class="note">{_chart_note(run, bool(area))}</p>{_legend(run)}"""

@@ -49,12 +49,13 @@
     listing.setAttribute("aria-activedescendant", row.id);
   }
 
-  // Scrolls the listing alone, not the page.
+  // Scrolls a box alone, not the page, so that the row is in it below the head.
   function showRow(box, row) {
-    const top = row.offsetTop - box.querySelector("thead").offsetHeight;
-    const bottom = row.offsetTop + row.offsetHeight;
-    if (top < box.scrollTop) box.scrollTop = top;
-    else if (bottom > box.scrollTop + box.clientHeight) box.scrollTop = bottom - box.clientHeight;
+    const head = row.closest("table").querySelector("thead").offsetHeight;
+    const place = row.getBoundingClientRect();
+    const frame = box.getBoundingClientRect();
+    if (place.top < frame.top + head) box.scrollTop -= frame.top + head - place.top;
+    else if (place.bottom > frame.bottom) box.scrollTop += place.bottom - frame.bottom;
   }
 
   function choose(entry) {
@@ -93,6 +94,7 @@
     const said = document.createElement("div");
     said.className = answer.passes ? "answer yes" : "answer no";
     said.textContent = answer.text;
+    said.title = answer.short;
     const asks = document.createElement("div");
     asks.className = "note";
     asks.textContent = answer.asks;
@@ -128,6 +130,8 @@
     if (!found) return;
     state.segment = data.segments.indexOf(Number(found.dataset.segment));
     showSegment();
+    const row = document.querySelector("tr.chosen[data-segment]");
+    if (row) showRow(row.closest(".segments"), row);
   }
 
   // What the user does.

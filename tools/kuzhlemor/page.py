@@ -6,7 +6,7 @@ from html import escape
 from pathlib import Path
 from typing import Callable, Dict, List, NamedTuple, Optional, Sequence, Set
 
-from . import sections
+from . import head_section, memory_section, run_section, segments_section
 from .calls import ASKS, Answer, Calls, says
 from .chart import percent_of
 from .image import Image, Registers, descriptors
@@ -48,13 +48,13 @@ def page(name: str, data: bytes, image: Image, program: str, library: Library, s
     run = follow(library, image, data, program, say)
     most = STEPS_KEPT
     while True:
-        text = render(_content(name, image, run, library, most))
-        if len(text) < BYTES_MOST or most <= 4:
+        text = render(_content(name, image, run, library, most, say))
+        if len(text.encode("utf-8", "replace")) < BYTES_MOST or most <= 4:
             return text
         most //= 2
 
 
-def _content(name: str, image: Image, run: Run, library: Library, most: int) -> Content:
+def _content(name: str, image: Image, run: Run, library: Library, most: int, say: Say) -> Content:
     """At most so many steps, fewer where there are many segments."""
     segments: Set[int] = set()
     kept = keep(run, most)
@@ -70,6 +70,7 @@ def _content(name: str, image: Image, run: Run, library: Library, most: int) -> 
     for entry, machine in entries(library, image, run, kept.steps):
         found.append(entry)
         tables.append(calls.ask(machine))
+        say(f"where a CALL may go: {len(found)} of {len(kept.steps)} steps")
     return Content(name, image, run, kept, found, tables, calls)
 
 
@@ -78,8 +79,9 @@ def _content(name: str, image: Image, run: Run, library: Library, most: int) -> 
 
 def _answer(answer: Answer) -> Dict[str, object]:
     passes = answer.kind == PASSES
-    asks = "" if passes else f"{QUESTIONS[answer.number].asks} No."
-    return {"passes": passes, "number": answer.number, "ring": answer.ring, "text": says(answer), "asks": asks}
+    question = None if passes else QUESTIONS[answer.number]
+    found = {"passes": passes, "number": answer.number, "ring": answer.ring, "text": says(answer)}
+    return {**found, "short": question.short if question else "", "asks": f"{question.asks} No." if question else ""}
 
 
 def _row(word: int, ranges: Sequence[Sequence[object]]) -> Dict[str, object]:
@@ -94,7 +96,7 @@ def _entry(content: Content, k: int) -> Dict[str, object]:
     when = "at the start" if entry.step == 0 else "as the run ended" if entry.is_end else f"after step {entry.step:,}"
     return {
         "step": entry.step,
-        "line": "" if entry.step == 0 or entry.is_end else sections.listing_line(entry),
+        "line": "" if entry.step == 0 or entry.is_end else run_section.listing_line(entry),
         "percent": percent_of(content.run, entry.step),
         "title": words.title,
         "did": words.did,
@@ -131,19 +133,19 @@ def _part(name: str) -> str:
 
 
 def render(content: Content) -> str:
-    name = sections.shown_name(content.name)
+    name = head_section.shown_name(content.name)
     parts = {
         "title": escape(f"{name} - Kuzhlemor"),
         "heading": escape(name),
         "css": _part("page.css"),
         "js": _part("page.js"),
         "data": _json(page_data(content)),
-        "outcome_class": sections.outcome_class(content.image, content.run),
-        "outcome": sections.outcome(content.image, content.run),
-        "facts": sections.facts(content.image),
-        "stepper": sections.stepper() if content.run else "",
+        "outcome_class": head_section.outcome_class(content.image, content.run),
+        "outcome": head_section.outcome(content.image, content.run),
+        "facts": head_section.facts(content.image),
+        "stepper": head_section.stepper() if content.run else "",
         "sections": "\n".join(_sections(content)),
-        "footer": sections.FOOTER,
+        "footer": head_section.FOOTER,
     }
     return re.sub(r"\{\{(\w+)\}\}", lambda found: parts[found.group(1)], _part("page.html")) + "\n"
 
@@ -151,10 +153,10 @@ def render(content: Content) -> str:
 def _sections(content: Content) -> List[str]:
     calls, run = content.calls, content.run
     started = descriptors(content.image)
-    found = [sections.memory(content.image, started)]
+    found = [memory_section.memory(content.image, started)]
     later = [number for number in calls.segments if number not in started] if calls else []
-    found.append(sections.segments(content.image, started, later))
+    found.append(segments_section.segments(content.image, started, later))
     if run is not None and content.kept is not None:
-        found.append(sections.run(run, content.kept, content.entries))
+        found.append(run_section.run(run, content.kept, content.entries))
     return found
 
