@@ -330,13 +330,13 @@ def check_strips(image: Image, text: str, what: str) -> None:
         check(set(strip.group(1).split()) == off, f"{what}: segment {number}: off are {off}")
 
 
-def _levels(path: str) -> List[List[int]]:
-    """The rings along each line of a chart's path, a column each."""
+def _levels(path: str, columns: int) -> List[List[int]]:
+    """The rings along each line of a chart's path, a column each; the whole is 1,000 wide."""
     lines: List[List[int]] = []
     height = 0.0
     for letter, number, more in re.findall(r"([MHV])([\d.]+)(?: ([\d.]+))?", path):
         if letter == "H":
-            lines[-1] += [7 - int(height / 21)] * (int(number) - len(lines[-1]))
+            lines[-1] += [7 - int(height / 21)] * (round(float(number) * columns / 1000) - len(lines[-1]))
         else:
             height = float(more or number)
             if letter == "M":
@@ -352,23 +352,53 @@ def check_chart(text: str, lines: List[str], start: int, what: str) -> None:
     rings += rings[-1:] if lines[-1].startswith("fault") else []
     columns = min(len(rings), 800)
     parted = [rings[k * len(rings) // columns : (k + 1) * len(rings) // columns] for k in range(columns)]
-    drawn_lines = _levels(re.search(r'class="ring-line" d="([^"]*)"', text).group(1))
+    drawn_lines = _levels(re.search(r'class="ring-line" d="([^"]*)"', text).group(1), columns)
     check(drawn_lines[0] == [max(part) for part in parted], f"{what}: the highest rings of the chart")
     check(drawn_lines[-1] == [min(part) for part in parted], f"{what}: the lowest rings of the chart")
 
 
+    words = [0, *(int(line.split()[4]) for line in lines[:-1])]
+    most = max(words)
+    highest = [max(words[k * len(rings) // columns : (k + 1) * len(rings) // columns], default=0) for k in range(columns)]
+    bars = re.findall(r"M([\d.]+) 36V([\d.]+)H", re.search(r'class="pointer-bars" d="([^"]*)"', text).group(1)) if most else []
+    shown = {int(float(left) * columns / 1000): float(top) for left, top in bars}
+    wanted = {k: 36 - max(2, 34 * some / most) for k, some in enumerate(highest) if some}
+    is_near = shown.keys() == wanted.keys() and all(abs(shown[k] - wanted[k]) < 0.1 for k in wanted)
+    check(is_near, f"{what}: pointer words {shown}, not {wanted}")
+
+
+def check_events(text: str, image: Image, what: str) -> bool:
+    """The marks of a short run are its calls, returns and delivered faults. The first delivered fault, if there is one, is the fault
+    that ends the run with the switch off."""
+    found = data_of(text)["entries"]
+    delivered = [entry for entry in found if "The fault was delivered" in entry["said"]]
+    performed = [entry["did"].split()[0] for entry in found[1:] if "Question" not in entry["said"]]
+    drawn_marks = re.findall(r'<use href="#mark-(\w+)" x', text)
+    for name, wanted in (("call", performed.count("CALL")), ("return", performed.count("RETURN")), ("delivered", len(delivered))):
+        check(drawn_marks.count(name) == wanted, f"{what}: {drawn_marks.count(name)} marks for {name}, not {wanted}")
+    if delivered:
+        image.registers.switch = 0
+        _, number, count, ring, segment, word, _ = program("simulate", write_image(image)).splitlines()[-1].split()
+        first = delivered[0]
+        check(first["step"] == int(count) + 1, f"{what}: the first delivered fault is in step {first['step']}, not after {count}")
+        check(first["said"].startswith(f"Question {number}, asked of ring {ring}, s{segment}.{word}:"), f"{what}: {first['said']}")
+    return bool(delivered)
+
+
 def drawings() -> None:
-    """Map, strips and chart of random images, and the chart of a long run."""
+    """Map, strips, chart and events of random images, and the chart of a long run."""
+    delivered = 0
     random = Random(15)
     for k in range(DRAWN):
-        image = drawn.machine(random, budget_most=60)
-        data = b"".join(drawn.records(random, image))
+        data = b"".join(drawn.records(random, drawn.machine(random, budget_most=50)))
         image = read_image(data)
         text = page_of(data)
         if image.refused is None:
             check_map(image, text, f"image {k}")
             check_strips(image, text, f"image {k}")
             check_chart(text, program("simulate", data).splitlines(), image.registers.ipr.ring, f"image {k}")
+            delivered += check_events(text, image, f"image {k}")
+    check(delivered > DRAWN // 30, f"only {delivered} images deliver a fault")
     data = with_budget(image_of(ENDLESS), 5000)
     check_chart(page_of(data), program("simulate", data).splitlines(), 4, "5,000 steps")
 

@@ -6,6 +6,8 @@ from .phrases import counted
 from .trace import CALL, DELIVERED, NOTHING, RETURN, Run
 
 COLUMNS_MOST = 800
+# Paths are in a box of this width, which the browser stretches: about the pixels that it has, since it draws much wider ones blurred.
+WIDTH = 1000
 # Where there are more places than this, marks of one kind stand so far apart that no more are drawn.
 MARKS_MOST = 60
 RING_HEIGHT = 21
@@ -32,6 +34,10 @@ def _y(ring: int) -> float:
     return (7 - ring) * RING_HEIGHT + RING_HEIGHT / 2
 
 
+def _x(column: float, columns: int) -> str:
+    return f"{column * WIDTH / columns:.2f}".rstrip("0").rstrip(".")
+
+
 def _columns(run: Run) -> List[Tuple[int, int]]:
     """The steps of each column, from the first up to the end."""
     count = _slots(run)
@@ -50,18 +56,18 @@ def _edge(levels: List[int]) -> str:
     path = [f"M0 {_y(levels[0]):g}"]
     for column, level in enumerate(levels):
         if column and level != levels[column - 1]:
-            path.append(f"H{column}V{_y(level):g}")
-    return "".join(path) + f"H{len(levels)}"
+            path.append(f"H{_x(column, len(levels))}V{_y(level):g}")
+    return "".join(path) + f"H{WIDTH}"
 
 
-def _ring_paths(run: Run) -> Tuple[int, str, str]:
-    """The number of columns, the line (two where columns have several rings) and what lies between the two."""
+def _ring_paths(run: Run) -> Tuple[str, str]:
+    """The line (two where columns have several rings) and what lies between the two."""
     band = _band(run)
     lows, highs = [low for low, _ in band], [high for _, high in band]
     if lows == highs:
-        return len(band), _edge(lows), ""
-    area = _edge(highs) + "".join(f"V{_y(low):g}H{column}" for column, low in reversed(list(enumerate(lows))))
-    return len(band), _edge(highs) + _edge(lows), area + "Z"
+        return _edge(lows), ""
+    area = _edge(highs) + "".join(f"V{_y(low):g}H{_x(k, len(lows))}" for k, low in reversed(list(enumerate(lows))))
+    return _edge(highs) + _edge(lows), area + "Z"
 
 
 def _most_pointer_words(run: Run) -> int:
@@ -69,14 +75,16 @@ def _most_pointer_words(run: Run) -> int:
 
 
 def _pointer_path(run: Run) -> str:
-    """Bars as high as a column's most pointer words, in a box of that many columns and POINTERS_HEIGHT."""
+    """Bars as high as a column's most pointer words."""
     most = _most_pointer_words(run)
+    columns = _columns(run)
     bars = []
-    for column, (first, end) in enumerate(_columns(run)):
+    for k, (first, end) in enumerate(columns):
         highest = max(run.pointer_words[first:end], default=0)
         if highest:
-            height = max(2.0, highest / most * (POINTERS_HEIGHT - 2))
-            bars.append(f"M{column + 0.2:g} {POINTERS_HEIGHT}v{-height:g}h.6v{height:g}Z")
+            left, right = _x(k + 0.2, len(columns)), _x(k + 0.8, len(columns))
+            top = POINTERS_HEIGHT - max(2.0, highest / most * (POINTERS_HEIGHT - 2))
+            bars.append(f"M{left} {POINTERS_HEIGHT}V{top:.4g}H{right}V{POINTERS_HEIGHT}Z")
     return "".join(bars)
 
 
@@ -127,8 +135,8 @@ def _legend(run: Run) -> str:
     return f'<ul class="legend">{"".join(items)}</ul>' if items else ""
 
 
-def _pointer_track(run: Run, columns: int) -> str:
-    return f"""<svg height="{POINTERS_HEIGHT}" viewBox="0 0 {columns} {POINTERS_HEIGHT}" preserveAspectRatio="none" class="pointers">
+def _pointer_track(run: Run) -> str:
+    return f"""<svg height="{POINTERS_HEIGHT}" viewBox="0 0 {WIDTH} {POINTERS_HEIGHT}" preserveAspectRatio="none" class="pointers">
 <path class="pointer-bars" d="{_pointer_path(run)}"/></svg>"""
 
 
@@ -150,7 +158,7 @@ def _chart_note(run: Run, has_area: bool) -> str:
 
 def drawing(run: Run) -> str:
     """The chart as HTML, with its legend; the script moves the cursor in it."""
-    columns, line, area = _ring_paths(run)
+    line, area = _ring_paths(run)
     grid = "".join(
         f'<line class="grid" x1="0" x2="100%" y1="{y:g}" y2="{y:g}"/>'
         for y in (RING_HEIGHT * (k + 0.5) for k in range(8))
@@ -163,8 +171,8 @@ def drawing(run: Run) -> str:
     return f"""<div class="chart-box"><div class="chart-names" aria-hidden="true">{names}</div>
 <div class="chart-area" id="chart" tabindex="0" role="slider" aria-label="Ring after each step" aria-valuemin="0"
 aria-valuemax="{_slots(run) - 1}" aria-valuenow="0">
-<svg height="{HEIGHT}" aria-hidden="true">{grid}<svg width="100%" height="{HEIGHT}" viewBox="0 0 {columns} {HEIGHT}"
+<svg height="{HEIGHT}" aria-hidden="true">{grid}<svg width="100%" height="{HEIGHT}" viewBox="0 0 {WIDTH} {HEIGHT}"
 preserveAspectRatio="none">{shape}<path class="ring-line" d="{line}"/></svg>{''.join(_marks(run))}</svg>
-{_pointer_track(run, columns) if most else ""}<div class="cursor scripted" id="cursor"></div></div>
+{_pointer_track(run) if most else ""}<div class="cursor scripted" id="cursor"></div></div>
 <div></div><div class="axis" aria-hidden="true">{labels}</div></div>
 <p class="note">{_chart_note(run, bool(area))}</p>{_legend(run)}"""
