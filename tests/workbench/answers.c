@@ -1,7 +1,8 @@
 /* What the library answers to C, for the pages' tests: machines, steps and questions as numbers on standard input.
  *   m WORDS A ADDRESS LENGTH, nine times RING SEGMENT WORD, SWITCH SAVE HANDLER, COUNT and as many ADDRESS WORD: another machine
  *   r STEPS: a run of so many steps from the machine's start; prints every register
- *   q SEGMENT FIRST LAST: may a CALL go there, in IPR's ring? Prints FIRST LAST KIND NUMBER RING for each stretch of equal answers */
+ *   q SEGMENT FIRST LAST: may a CALL go there, in IPR's ring? Prints FIRST LAST KIND NUMBER RING for each stretch of words with
+ *     equal answers */
 #include <inttypes.h>
 #include <stdio.h>
 #include <stdlib.h>

@@ -1,5 +1,5 @@
-"""Pages: what they embed against the proved programs and, through a C program, the library; their sizes; pages of damaged and hostile
-images."""
+"""Pages: what they embed against the proved programs and, through a C program, the library; what they draw; their sizes; those of
+damaged and hostile images."""
 import json
 import re
 import resource
@@ -191,8 +191,9 @@ class Asked:
     def compare(self) -> None:
         with tempfile.TemporaryDirectory() as work:
             answers = Path(work) / "answers"
-            built = run(["gcc", "-std=c11", "-O2", "-Wall", "-Wextra", "-Werror", f"-I{TOP / 'include'}", TOP / "tests/workbench/answers.c",
-                         TOP / "target/staticlib/libkuzhlemor.a", "-o", answers])
+            flags = ["-std=c11", "-O2", "-Wall", "-Wextra", "-Werror", f"-I{TOP / 'include'}"]
+            archive = TOP / "target/staticlib/libkuzhlemor.a"
+            built = run(["gcc", *flags, TOP / "tests/workbench/answers.c", archive, "-o", answers])
             check(built.returncode == 0, f"answers.c: {built.stderr.decode()}")
             said = run([answers], "\n".join(self.questions).encode()).stdout.decode().splitlines()
         for name, expected, answer in zip(self.names, self.expected, said):
@@ -286,7 +287,7 @@ def split_ranges() -> None:
 
 
 def check_map(image: Image, text: str, what: str) -> None:
-    """Every segment with words in memory has one bar, bars of a lane lie apart, and the words of several are those by a count of each."""
+    """Every segment with words in memory has one bar, bars of a lane lie apart, and the words of several are those by a count."""
     found, words = descriptors(image), image.words
     drawn_map = memory_map(image, found)
     having: List[List[int]] = [[] for _ in range(words)]
@@ -325,7 +326,8 @@ def check_strips(image: Image, text: str, what: str) -> None:
         sizes = {name: int(size) for name, size in re.findall(r"--(\w):(\d+)", strip.group(2))}
         for ring in range(8):
             shown = [ring < sizes["w"], ring < sizes["r"], 0 <= ring - sizes["x"] < sizes["e"], 0 <= ring - sizes["y"] < sizes["g"]]
-            check(shown == [ring <= d.r1, ring <= d.r2, d.r1 <= ring <= d.r2, d.r2 < ring <= d.r3], f"{what}: segment {number}, ring {ring}")
+            wanted = [ring <= d.r1, ring <= d.r2, d.r1 <= ring <= d.r2, d.r2 < ring <= d.r3]
+            check(shown == wanted, f"{what}: segment {number}, ring {ring}")
         off = {name for name, on in zip("wreg", (d.write, d.read, d.execute, d.execute and d.gate)) if not on}
         check(set(strip.group(1).split()) == off, f"{what}: segment {number}: off are {off}")
 
@@ -368,7 +370,7 @@ def check_chart(text: str, lines: List[str], start: int, what: str) -> None:
 
 
 def check_events(text: str, image: Image, what: str) -> bool:
-    """The marks of a short run are its calls, returns and delivered faults. The first delivered fault, if there is one, is the fault
+    """The marks of a short run are its calls, returns and delivered faults. The first delivered fault, if there is one, is the one
     that ends the run with the switch off."""
     found = data_of(text)["entries"]
     delivered = [entry for entry in found if "The fault was delivered" in entry["said"]]
@@ -472,7 +474,8 @@ def damaged_images() -> None:
 
 def hostile_images() -> None:
     """What an author seldom writes: no memory, no segment, faults delivered without an end, every bit on; names like markup."""
-    for words, address, length in ((0, 0, 0), (1, 1, 0), (64, 0, 0), (64, 64, 0), (64, 60, 9), (64, 2**32 - 1, 65535), (8192, 0, 4096)):
+    sizes = ((0, 0, 0), (1, 1, 0), (64, 0, 0), (64, 64, 0), (64, 60, 9), (64, 2**32 - 1, 65535), (8192, 0, 4096))
+    for words, address, length in sizes:
         image = Image()
         image.words, image.budget, image.registers = words, 2**32 - 1, Registers()
         image.registers.dbr_address, image.registers.dbr_length = address, length
@@ -524,7 +527,8 @@ def ends() -> None:
             time.sleep(1)
             started.send_signal(signal.SIGINT)
             printed, said = started.communicate()
-        check(started.returncode == 130 and printed == b"" and b"Traceback" not in said, f"Ctrl-C: {started.returncode} {said.decode()}")
+        check(started.returncode == 130 and printed == b"", f"Ctrl-C: {started.returncode} {said.decode()}")
+        check(b"Traceback" not in said, f"Ctrl-C: {said.decode()}")
 
 
 def check_all() -> None:

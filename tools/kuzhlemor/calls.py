@@ -6,7 +6,7 @@ from .library import FAULT, PASSES, Check, Machine
 from .words import decode_descriptor
 
 WORD_MOST = 65535
-# How often the library is asked of one segment: of the first and the last word of its gates, its other words and those past its end.
+# How often the library is asked of one segment: of the first and the last of its gates, its other words and those past its end.
 ASKS = 6
 GATES, OTHERS, PAST_END, ALL = "gates", "other words", "past the end", "no descriptor"
 
@@ -48,7 +48,7 @@ def _plain(check: Check) -> Answer:
 
 
 class Calls:
-    """The answers for some segments at the steps asked for. Each list has nothing twice; a table has a row's index for each segment."""
+    """The answers for some segments at the steps asked for. Nothing is kept twice; a table has a row's index for each segment."""
 
     def __init__(self, segments: Sequence[int]) -> None:
         self.segments = segments

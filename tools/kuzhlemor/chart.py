@@ -6,7 +6,7 @@ from .phrases import counted
 from .trace import CALL, DELIVERED, NOTHING, RETURN, Run
 
 COLUMNS_MOST = 800
-# Paths are in a box of this width, which the browser stretches: about the pixels that it has, since it draws much wider ones blurred.
+# Paths are in a box of this width, which the browser stretches to about as many pixels: it blurs what it stretches much.
 WIDTH = 1000
 # Where there are more places than this, marks of one kind stand so far apart that no more are drawn.
 MARKS_MOST = 60

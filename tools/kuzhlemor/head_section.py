@@ -35,9 +35,11 @@ def facts(image: Image) -> str:
     found = [
         ("Memory", "no ME was taken" if image.words is None else counted(image.words, "word")),
         ("Budget", "no RN was taken" if image.budget is None else counted(image.budget, "step")),
-        ("Descriptor segment", "no ST was taken" if r is None else f"address {r.dbr_address}, {counted(r.dbr_length, 'word')} (DBR)"),
     ]
-    if r is not None:
+    if r is None:
+        found.append(("Registers", "no ST was taken"))
+    else:
+        found.append(("Descriptor segment (DBR)", f"address {r.dbr_address}, {counted(r.dbr_length, 'word')}"))
         found.append(("Faults", switch_text(r)))
     rows = "".join(f"<div><dt>{escape(name)}</dt><dd>{escape(text)}</dd></div>" for name, text in found)
     return f'<dl class="facts">{rows}</dl>'

@@ -125,8 +125,8 @@ class Machine:
         return _plain(self._library.step(self._registers, self.memory, self.words))
 
     def step_and_fault(self) -> Tuple[Reply, Optional[Reply]]:
-        """A step's reply, and the fault that it delivered or ended with. It is tried with the switch off first: a fault then changes
-        nothing and says its number and pointer, and any other step is the same with the switch on."""
+        """A step's reply, and the fault that it delivered or ended with. It is tried with the switch off first: a fault then
+        changes nothing and says its number and pointer, and any other step is the same with the switch on."""
         lent = self._registers
         switch, lent.fault_switch = lent.fault_switch, 0
         reply = self.step()

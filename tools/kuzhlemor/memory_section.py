@@ -86,7 +86,7 @@ def _shared_list(drawn: MemoryMap, found: Dict[int, Descriptor], dbr_address: in
 def _undrawn(drawn: MemoryMap) -> str:
     said = ""
     if drawn.undrawn:
-        said += f"<p>{counted(drawn.undrawn, 'segment')} more would need further lanes and aren't drawn; the table below has all.</p>"
+        said += f"<p>{counted(drawn.undrawn, 'segment')} more would need further lanes and aren't drawn; the table has all.</p>"
     if drawn.outside:
         names = [segment_name(number) for number in drawn.outside[:NAMED_MOST]]
         if len(drawn.outside) > len(names):
@@ -107,9 +107,10 @@ def memory(image: Image, found: Dict[int, Descriptor]) -> str:
     dbr_address = image.registers.dbr_address if image.registers else 0
     choose = "" if image.refused else ' <span class="scripted unprinted">Choose a segment to learn where a CALL may go.</span>'
     return f"""<section id="memory"><h2>Memory</h2>
-<p class="note">Addresses from left to right, as the image starts. Each segment is a bar; segments that overlap stand in lanes below each
-other.{choose}</p>
+<p class="note">Addresses from left to right, as the image starts. Each segment is a bar; segments that overlap stand in lanes below
+each other.{choose}</p>
 <div class="map">{_table_track(drawn.descriptor_segment, words)}
-<div class="track-name">Segments</div><div class="track ground pick{' dense' if drawn.is_dense else ''}" style="height:{height}px">{bars}</div>
+<div class="track-name">Segments</div>
+<div class="track ground pick{' dense' if drawn.is_dense else ''}" style="height:{height}px">{bars}</div>
 {_shared_track(drawn, words)}{_axis(words)}</div>
 {_undrawn(drawn)}{_shared_list(drawn, found, dbr_address)}</section>"""

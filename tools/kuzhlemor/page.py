@@ -1,4 +1,4 @@
-"""An image as one HTML page without any reference to elsewhere: its memory, its segments' brackets, its run, and where a CALL may go.
+"""An image as one HTML page without any reference to elsewhere: its memory, its segments' brackets, its run, where a CALL may go.
 Every answer on it is the proved library's or the proved program's; the page's script only looks them up."""
 import json
 import re
@@ -85,7 +85,9 @@ def _answer(answer: Answer) -> Dict[str, object]:
 
 
 def _row(word: int, ranges: Sequence[Sequence[object]]) -> Dict[str, object]:
-    text = descriptor_text(decode_descriptor(word)) if word else "no descriptor: its word is zero, or its number is past DBR's length"
+    text = "no descriptor: its word is zero, or its number is past DBR's length"
+    if word:
+        text = descriptor_text(decode_descriptor(word))
     return {"descriptor": text, "ranges": [list(found) for found in ranges]}
 
 

@@ -77,7 +77,8 @@ def entry_words(entry: Entry) -> EntryWords:
         return EntryWords(f"The end: {fault}", f"{did} at {at}", said, f"End: {did} at {at}: {fault}")
     if entry.fault is not None:
         said = f"{fault_text(entry.fault)} The fault was delivered to the handler.{read}"
-        return EntryWords(title, f"{did} at {at}", said, f"{title}: {did} at {at}: fault {entry.fault.number} delivered; then {now}")
+        summary = f"{title}: {did} at {at}: fault {entry.fault.number} delivered; then {now}"
+        return EntryWords(title, f"{did} at {at}", said, summary)
     return EntryWords(title, f"{did} at {at}", read.strip(), f"{title}: {did} at {at}; then {now}")
 
 

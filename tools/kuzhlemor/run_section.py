@@ -41,7 +41,8 @@ def _listing(run: Run, found: Sequence[Entry]) -> str:
             rows.append(f'<tr class="gap"><td colspan="6">{left_out} left out</td></tr>')
         rows.append(_listing_row(k, entry))
         expected = entry.step + 1
-    return f"""<div class="scroll listing" id="listing-box"><table id="listing" tabindex="0" role="grid" aria-label="Listing" aria-readonly="true">
+    return f"""<div class="scroll listing" id="listing-box">
+<table id="listing" tabindex="0" role="grid" aria-label="Listing" aria-readonly="true">
 <thead><tr><th class="n">Step</th><th class="n">Ring</th><th class="n">Segment</th><th class="n">Word</th>
 <th class="n" title="Pointer words that the step read">Pointers</th><th>Performed</th></tr></thead>
 <tbody>{''.join(rows)}<tr class="last"><td colspan="6"><code>{run.last_line}</code></td></tr></tbody></table></div>"""
@@ -55,7 +56,7 @@ def _kept_text(run: Run, kept: Kept) -> str:
     moves = f" {kept.moves:,}" if kept.moves <= kept.each else f" {kept.each:,} of the {kept.moves:,}"
     moves = f"{moves} with a call, a return, a delivered fault or another ring," if kept.moves else ""
     return (
-        f'<p class="thinned"><strong>{counted(count, "step")} were followed. {have:,} of them are kept here, {count - have:,} are left out'
+        f'<p><strong>{counted(count, "step")} were followed. {have:,} of them are kept here, {count - have:,} are left out'
         f"</strong> of the listing and the registers. Kept are the first and the last {kept.each:,},{moves} and"
         f" {kept.each:,} evenly spaced. The chart is drawn from all steps.</p>"
     )
@@ -68,7 +69,8 @@ def _register(name: str, text: str) -> str:
 def _registers(entry: Entry) -> str:
     """The pointer registers in a column of their own; what faults need no step changes."""
     r = entry.registers
-    texts = {**register_texts(r), "Switch": "on" if r.switch else "off", "Save": segment_name(r.save), "Handler": segment_name(r.handler)}
+    texts = {**register_texts(r), "Switch": "on" if r.switch else "off"}
+    texts.update({"Save": segment_name(r.save), "Handler": segment_name(r.handler)})
     left = "".join(_register(name, text) for name, text in texts.items() if not name.startswith("PR"))
     right = "".join(_register(name, text) for name, text in texts.items() if name.startswith("PR"))
     return f'<div class="registers"><dl>{left}</dl><dl>{right}</dl></div>'

@@ -13,9 +13,10 @@ ROW_HEIGHT = 56
 
 def _strip(d: Descriptor) -> str:
     """The brackets as lanes; what a letter in the class names is off."""
-    off = ("" if d.write else "w", "" if d.read else "r", "" if d.execute else "e", "" if d.execute and d.gate else "g")
+    lanes = (("w", d.write), ("r", d.read), ("e", d.execute), ("g", d.execute and d.gate))
+    off = " ".join(name for name, on in lanes if not on)
     style = f"--w:{d.r1 + 1};--r:{d.r2 + 1};--x:{d.r1};--e:{d.r2 - d.r1 + 1};--y:{d.r2 + 1};--g:{d.r3 - d.r2}"
-    return f'<div class="strip" aria-hidden="true"><b>W\nR\nE\nG</b><i class="{" ".join(filter(None, off))}" style="{style}"></i></div>'
+    return f'<div class="strip" aria-hidden="true"><b>W\nR\nE\nG</b><i class="{off}" style="{style}"></i></div>'
 
 
 def _flags(d: Descriptor) -> str:
@@ -43,9 +44,10 @@ def _segment_row(number: int, d: Descriptor, words: int) -> str:
     note = _notes(d, words)
     note = f'<div class="what">{note}</div>' if note else ""
     unusable = ' class="unusable"' if descriptor_question(d, words) else ""
+    numbers = "".join(f'<td class="n">{text}</td>' for text in (d.address, d.length, d.gate, f"{d.r1} {d.r2} {d.r3}"))
     return (
-        f'<tr{unusable} data-segment="{number}"><th scope="row"><button class="name" aria-pressed="false">{segment_name(number)}</button></th>'
-        f'<td class="n">{d.address}</td><td class="n">{d.length}</td><td class="n">{d.gate}</td><td class="n">{d.r1} {d.r2} {d.r3}</td>'
+        f'<tr{unusable} data-segment="{number}"><th scope="row"><button class="name" aria-pressed="false">{segment_name(number)}'
+        f"</button></th>{numbers}"
         f'<td class="mono flags">{_flags(d)}</td><td>{strip}{note}</td></tr>'
     )
 
@@ -93,7 +95,7 @@ def segments(image: Image, found: Dict[int, Descriptor], later: Sequence[int]) -
     if found:
         items = list(found.items())
         tables = "".join(_segment_table(items[k : k + ROWS_MOST], words) for k in range(0, len(items), ROWS_MOST))
-        table = f"""<div class="scroll segments pick" tabindex="0" role="region" aria-label="Segments">{tables}</div>{_STRIP_LEGEND}"""
+        table = f'<div class="scroll segments pick" tabindex="0" role="region" aria-label="Segments">{tables}</div>{_STRIP_LEGEND}'
     else:
         table = "<p>No segment has a descriptor.</p>"
     panel = _call_panel(image.refused is not None) if found or later else ""
