@@ -8,8 +8,9 @@ from .phrases import counted, end_question, end_text, switch_text
 from .trace import Run
 
 FOOTER = (
-    "Every answer on this page is that of the proved library or the proved program. s4.1 is word 1 of segment 4."
-    " This file needs no network."
+    "The listing, the registers, where a CALL may go and the number that refuses an image are answers of the proved library and"
+    " program. Map, brackets, notes and the texts of instructions are read from the image by a tool that isn't proved."
+    " s4.1 is word 1 of segment 4. This file needs no network."
 )
 
 

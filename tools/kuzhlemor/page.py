@@ -1,5 +1,6 @@
 """An image as one HTML page without any reference to elsewhere: its memory, its segments' brackets, its run, where a CALL may go.
-Every answer on it is the proved library's or the proved program's; the page's script only looks them up."""
+Listing, registers, CALL's answers and the number that refuses an image are the proved library's and program's; the page's script
+only looks them up."""
 import json
 import re
 from html import escape
