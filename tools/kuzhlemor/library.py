@@ -1,6 +1,6 @@
 """The proved library, called from Python: steps, runs and CALL's check over the registers and the memory of an image."""
 import ctypes
-from typing import NamedTuple, Optional
+from typing import Dict, NamedTuple, Optional, Tuple
 
 from .image import Image, Registers
 from .words import Pointer
@@ -106,8 +106,34 @@ class Machine:
     def ipr(self) -> Pointer:
         return self._registers.ipr.plain()
 
+    def descriptor_words(self) -> Dict[int, int]:
+        """The descriptor words that aren't zero, by segment, as they stand now."""
+        dbr = self._registers.dbr
+        words = self.memory[dbr.address : min(dbr.address + dbr.length, self.words)]
+        return {number: word for number, word in enumerate(words) if word}
+
+    def word_at(self, pointer: Pointer) -> Optional[int]:
+        """The word to which a pointer leads, if there is one; whether it may be read isn't asked."""
+        dbr, (_, segment, word) = self._registers.dbr, pointer
+        if segment >= dbr.length or dbr.address + segment >= self.words:
+            return None
+        descriptor = self.memory[dbr.address + segment]
+        address = (descriptor & 0xFFFFFF) + word
+        return self.memory[address] if word < descriptor >> 24 & 0xFFFF and address < self.words else None
+
     def step(self) -> Reply:
         return _plain(self._library.step(self._registers, self.memory, self.words))
+
+    def step_and_fault(self) -> Tuple[Reply, Optional[Reply]]:
+        """A step's reply, and the fault that it delivered or ended with. It is tried with the switch off first: a fault then
+        changes nothing and says its number and pointer, and any other step is the same with the switch on."""
+        lent = self._registers
+        switch, lent.fault_switch = lent.fault_switch, 0
+        reply = self.step()
+        lent.fault_switch = switch
+        if reply.kind != FAULT:
+            return reply, None
+        return (self.step() if switch else reply), reply
 
     def run(self, budget: int) -> Reply:
         return _plain(self._library.run(self._registers, self.memory, self.words, budget))

@@ -9,6 +9,7 @@ from typing import List, Optional, TextIO
 
 from .assemble import END_OF_TEXT, Assembled, assemble
 from .image import BYTES_READ, read_image
+from .progress import Progress
 from .questions import QUESTIONS, question_text, ranges
 from .show import show
 from .source import shown
@@ -176,6 +177,29 @@ def run_explained(path: str, program: str, library: str) -> int:
     return DONE if _note(explanation(read_image(data), proved)) else NO_ANSWER
 
 
+def page_file(path: str, program: str, library: str) -> int:
+    """An image as a page for a browser."""
+    try:
+        from .library import Library
+        from .page import page
+        from .trace import Disagreement
+    except ImportError as error:
+        raise Failed(f"page: {error}") from None
+    data = _read(path, BYTES_READ)
+    name = _named(path) if path == "-" else os.path.basename(path)
+    progress = Progress()
+    try:
+        text = page(name, data, read_image(data), program, Library(library), progress.say)
+    except OSError as error:
+        raise Failed(f"what was built can't be used: {error}") from None
+    except Disagreement as disagreement:
+        raise Failed(f"no page: {disagreement}") from None
+    finally:
+        progress.end()
+    _print(text.encode("utf-8", "replace"), "the page")
+    return DONE
+
+
 def _end(number: int, frame: object) -> None:
     raise KeyboardInterrupt
 
@@ -192,7 +216,11 @@ def main(arguments: List[str]) -> int:
             return explain_number(arguments[1])
         if len(arguments) == 4 and arguments[0] == "run":
             return run_explained(*arguments[1:])
-        raise Failed("workbench: assemble SOURCE IMAGE, show IMAGE, explain NUMBER, or run IMAGE PROGRAM LIBRARY")
+        if len(arguments) == 4 and arguments[0] == "page":
+            return page_file(*arguments[1:])
+        raise Failed(
+            "workbench: assemble SOURCE IMAGE, show IMAGE, explain NUMBER, run IMAGE PROGRAM LIBRARY, or page IMAGE PROGRAM LIBRARY"
+        )
     except Failed as failed:
         _note(f"kuzhlemor: {failed}\n")
         return NO_ANSWER

@@ -34,7 +34,7 @@ def _with_comment(text: str, comment: str) -> str:
     return f"{text:<{COMMENT_COLUMN - 1}} # {comment}" if comment else text
 
 
-def _stretch(first: int, end: int, what: str) -> str:
+def stretch_text(first: int, end: int, what: str) -> str:
     """Words, segments or addresses from the first up to the end, which isn't one of them."""
     if end == first + 1:
         return f"{what} {first}"
@@ -151,8 +151,8 @@ class _Show:
             e = self.descriptors[other]
             first = max(d.address, e.address)
             last = min(end, e.address + e.length)
-            mine = _stretch(first - d.address, last - d.address, "word")
-            theirs = _stretch(first - e.address, last - e.address, "word")
+            mine = stretch_text(first - d.address, last - d.address, "word")
+            theirs = stretch_text(first - e.address, last - e.address, "word")
             lines.append(f"    # {mine}: also {segment_name(other)}'s {theirs}")
         if count > len(others):
             more = count - len(others)
@@ -164,8 +164,8 @@ class _Show:
         last = min(end, self.first_descriptor + self.image.registers.dbr_length)
         if first >= last:
             return []
-        mine = _stretch(first - d.address, last - d.address, "word")
-        segments = _stretch(first - self.first_descriptor, last - self.first_descriptor, "segment")
+        mine = stretch_text(first - d.address, last - d.address, "word")
+        segments = stretch_text(first - self.first_descriptor, last - self.first_descriptor, "segment")
         return [f"    # {mine}: also the {'descriptor' if last == first + 1 else 'descriptors'} of {segments}"]
 
     def registers(self) -> List[str]:
@@ -199,7 +199,7 @@ class _Show:
     def section(self, number: int) -> List[str]:
         d = self.descriptors[number]
         labels = self.labels(number) if d.execute else {}
-        lines = ["", _with_comment(f"in {segment_name(number)}", _stretch(d.address, d.address + d.length, "address"))]
+        lines = ["", _with_comment(f"in {segment_name(number)}", stretch_text(d.address, d.address + d.length, "address"))]
         expected = d.address
         for address in self.owned[number]:
             if address > expected:
