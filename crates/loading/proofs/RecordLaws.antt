@@ -98,9 +98,6 @@ memory-length n m h =
 
 -- what 51 was asked of has its size still
 module _ (v : Image.Rules) (a : ℕ) (m : List ℕ) (answer : Bool) (m-asked : List ℕ) (asked : Asked-51 v a m answer m-asked) where
-  pub asked-length : length m-asked ≡ length m
-  asked-length = asked .size-same
-
   pub asked-sized : (b : Bool) → Store-sized b (length m) → Store-sized b (length m-asked)
   asked-sized b s = subst (Store-sized b) (sym (asked .size-same)) s
 
@@ -259,7 +256,7 @@ module _ (x : Loading) (m bs : List ℕ) (e : Bool) (is-marked : mark-of bs ≡ 
           loading-front WD x m bs is-marked whole rest
           ∙ rw (h, address, sized, lt-ltb _ _ g, may-be, n, word, put, p .rules-next, p .memory-next, p .set-next)
 
-pub ruleset word-loaded = (not-true, not-false, within-still, address-within, has-set, asked-sized, asked-kept, put-size, wd-before-me, wd-outside, wd-written, wd-loaded)
+pub ruleset word-loaded = (not-true, not-false, within-still, address-within, asked-sized, asked-kept, put-size, wd-before-me, wd-outside, wd-written, wd-loaded)
 
 -- A WD AS A RECORD
 module _ (l : Loading) (m bs : List ℕ) (n : ℕ) (m-now : List ℕ) (w : Word-taken (l .«is_stored») (l .«has_memory») (l .words) m bs n m-now) (within : Loading-within l m) where
