@@ -14,7 +14,7 @@ use Rattle.model.specs.Questions.{ask}
 use Rattle.model.specs.Run.{unless-refused}
 use Rattle.model.specs.Image as Image
 use Rattle.model.specs.Image.{Mark, ME, ST, WD, RN, mark-of, start-size, record-size, number-at, delivery-at, has, memory-of, or-else, in-order, memory-allowed, address-allowed, unless-written, address-new, record-questions, with-written, words-with, with-word, with-record, record-on, whole-record-on, image-after}
-use Rattle.model.proofs.ImageLaws.{record-has-a-mark, image-is-records, number-at-front}
+use Rattle.formats.proofs.ImageLaws.{record-has-a-mark, image-is-records, number-at-front}
 use Rattle.model.proofs.BranchLaws.{cond-holds}
 use Rattle.fields.proofs.MarkLaws.{mark-of-record}
 use Rattle.addresses.specs.Set.{in-set}
