@@ -14,7 +14,7 @@ use Rattle.model.specs.Image.{number-at, checked}
 use Rattle.model.specs.Listing.{refusal-line, last-line}
 use Rattle.model.specs.Write.{written-image}
 use Rattle.model.specs.Brackets.{Row, Bracketed, set-brackets, bracketed-text, image-bracketed, row-at}
-use Rattle.model.proofs.ImageLaws.{checked-refused, checked-passed}
+use Rattle.formats.proofs.ImageLaws.{checked-refused, checked-passed}
 use Rattle.host.specs.Record.{machine-of, delivery-of}
 use Rattle.host.specs.declared.record.Registers.{Registers}
 use Rattle.tables.specs.View.{as-row, base}

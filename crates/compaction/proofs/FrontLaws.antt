@@ -12,7 +12,7 @@ use borrow.Author.Tests.{le-leb, lt-leb, lt-ltb, le-ltb, eq-eqb}
 use Rattle.model.specs.Image as Image
 use Rattle.model.specs.Image.{stored, mark-of, start-size, record-size, number-at}
 use Rattle.model.specs.Convert.{size-by, front-size, is-word, writes}
-use Rattle.model.proofs.ImageLaws.{record-has-a-mark, number-at-front}
+use Rattle.formats.proofs.ImageLaws.{record-has-a-mark, number-at-front}
 use Rattle.fields.specs.declared.mark.Mark.{Mark}
 use Rattle.fields.specs.declared.mark.Mark.the-variants.{Memory, Start, Word, Run, Unknown}
 use Rattle.fields.specs.Mark.{as-mark, size-of}

@@ -15,7 +15,7 @@ use mir.Facts.{fits-le}
 use Rattle.model.specs.Image.{stored, mark-of, number-at}
 use Rattle.model.specs.Convert.{records, is-word, writes, some-writes, superseded}
 use Rattle.model.proofs.BranchLaws.{cond-holds, and-left, and-right}
-use Rattle.model.proofs.CutLaws.{front-within, no-record, one-record}
+use Rattle.formats.proofs.CutLaws.{front-within, no-record, one-record}
 use Rattle.compaction.specs.declared.front.FrontRecord.{FrontRecord}
 use Rattle.compaction.specs.Front.{written-word, Front-of}
 use Rattle.compaction.specs.Last.{last-places}

@@ -15,8 +15,8 @@ use Rattle.model.specs.Registers.{Delivery, Machine}
 use Rattle.model.specs.Image.{Rules, stored, Mark, mark-of, record-size, loaded, stored-image}
 use Rattle.model.specs.Convert.{size-by, front-size, records, kept-of, compacted, is-start, start-end, with-zeros-at}
 use Rattle.model.proofs.BranchLaws.{cond-holds}
-use Rattle.model.proofs.ImageLaws.{record-has-a-mark}
-use Rattle.model.proofs.ConvertLaws.{zeros-length, compacted-with-zeros}
+use Rattle.formats.proofs.ImageLaws.{record-has-a-mark}
+use Rattle.formats.proofs.ConvertLaws.{zeros-length, compacted-with-zeros}
 use Rattle.fields.specs.declared.mark.Mark as Code
 use Rattle.fields.specs.declared.mark.Mark.the-variants.{Memory, Start, Word, Run, Unknown}
 use Rattle.fields.specs.Mark.{as-mark}

@@ -12,10 +12,10 @@ use Rattle.model.specs.Questions.{start-questions}
 use Rattle.model.specs.Image as Image
 use Rattle.model.specs.Registers.{Delivery, Machine}
 use Rattle.model.specs.Convert.{records, joined, left-over, last-of-each, kept-of, compacted, convert-on, convert-after}
-use Rattle.model.proofs.ImageLaws.{checked-refused, checked-passed}
-use Rattle.model.proofs.CutLaws.{cut}
-use Rattle.model.proofs.LastLaws.{compacted-early}
-use Rattle.model.proofs.OverwrittenLaws.{last-of-each-loads}
+use Rattle.formats.proofs.ImageLaws.{checked-refused, checked-passed}
+use Rattle.formats.proofs.CutLaws.{cut}
+use Rattle.formats.proofs.LastLaws.{compacted-early}
+use Rattle.formats.proofs.OverwrittenLaws.{last-of-each-loads}
 use Rattle.loading.specs.declared.Loading.{Loading}
 use Rattle.loading.specs.View.{as-loading, Loading-within}
 use Rattle.loading.specs.Record.{Goes, outcome-image}

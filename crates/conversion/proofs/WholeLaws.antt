@@ -7,7 +7,7 @@ use native.Mathlib.Omega.{arith}
 use lib.ListN.{length, take, drop, replicate}
 use Rattle.model.specs.Image as Image
 use Rattle.model.specs.Convert.{kept-of, compacted, convert-call-on, convert-call}
-use Rattle.model.proofs.ImageLaws.{image-needs-rn}
+use Rattle.formats.proofs.ImageLaws.{image-needs-rn}
 use Rattle.compaction.specs.Renewed.{with-zeros}
 use Rattle.compaction.proofs.StartLaws.{renewed-compacted}
 use Rattle.loading.specs.declared.Loading.{Loading}

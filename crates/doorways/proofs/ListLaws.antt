@@ -15,7 +15,7 @@ use Rattle.model.specs.Listing.{ascii, line, refusal-line}
 use Rattle.model.specs.Doors.{Door, doors-from, doors, door-line, door-lines, faults-line, doors-line, doors-listing, image-doors}
 use Rattle.model.proofs.BranchLaws.{and-left, and-right}
 use Rattle.model.proofs.QuestionLaws.{ask-yes}
-use Rattle.model.proofs.ImageLaws.{checked-refused, checked-passed}
+use Rattle.formats.proofs.ImageLaws.{checked-refused, checked-passed}
 use Rattle.text.specs.Text.{placed, Put}
 use Rattle.text.proofs.TextLaws.{placed-none, both-put}
 use Rattle.parts.proofs.PartLaws.{ended}

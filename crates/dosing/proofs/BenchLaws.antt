@@ -12,7 +12,7 @@ use Rattle.model.specs.Questions.{start-questions}
 use Rattle.model.specs.Image as Image
 use Rattle.model.specs.Image.{image, loaded, checked}
 use Rattle.model.specs.Listing.{listing}
-use Rattle.model.proofs.ImageLaws.{checked-refused, checked-passed}
+use Rattle.formats.proofs.ImageLaws.{checked-refused, checked-passed}
 use Rattle.model.specs.Bench as Bench
 use Rattle.model.specs.Bench.{call-refused, call-wrote, bench-on, bench}
 use Rattle.state.specs.View.{as-machine}

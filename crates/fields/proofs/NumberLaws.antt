@@ -46,4 +46,13 @@ module _ (n p scale a : ℕ) (bs : List ℕ) (x y : ℕ) where
       let high : big-endian (big-endian 0 xs) ys ≡ 256 ^ n * x + y = big-endian-from (big-endian 0 xs) ys ∙ rw (long, low, e) in
       rw s (sym (all ∙ high))
 
-pub ruleset numbers = (one-byte, two-halves)
+pub four-quarters : (a : ℕ) (bs : List ℕ) (x y z w : ℕ) → x ≡ number-at a 2 bs → y ≡ number-at (a + 2) 2 bs → z ≡ number-at (a + 4) 2 bs → w ≡ number-at (a + 6) 2 bs →
+    a + 8 ≤ length bs → 281474976710656 * x + 4294967296 * y + 65536 * z + w ≡ number-at a 8 bs
+four-quarters a bs x y z w e f g h l =
+    let last : w ≡ number-at (a + 4 + 2) 2 bs = h ∙ ap (λ k. number-at k 2 bs) (let q : a + 6 ≡ a + 4 + 2 = omega arith in q) in
+    let high = two-halves 2 4 65536 a bs x y e f (omega arith) refl refl in
+    let low = two-halves 2 4 65536 (a + 4) bs z w g last (omega arith) refl refl in
+    let all = two-halves 4 8 4294967296 a bs (number-at a 4 bs) (number-at (a + 4) 4 bs) refl refl l refl refl in
+    omega arith
+
+pub ruleset numbers = (one-byte, two-halves, four-quarters)

@@ -29,11 +29,17 @@ pub fn number_4(bytes: &[u8], at: usize) -> u32
     65536 * (high as u32) + low as u32
 }
 
+// Four numbers of two bytes: so the compiler reads the eight bytes at once.
 pub fn number_8(bytes: &[u8], at: usize) -> u64
     requires { ⌜ at + 8 ≤ length (now bytes) ⌝ }
     ensures { λ r. ⌜ r ≡ number-at at 8 (now (bytes .entry)) ⌝ }
 {
-    let high = number_4(bytes, at);
-    let low = number_4(bytes, at + 4);
-    4294967296 * (high as u64) + low as u64
+    let first = number_2(bytes, at);
+    let second = number_2(bytes, at + 2);
+    let third = number_2(bytes, at + 4);
+    let last = number_2(bytes, at + 6);
+    281474976710656 * (first as u64)
+        + 4294967296 * (second as u64)
+        + 65536 * (third as u64)
+        + last as u64
 }

@@ -21,7 +21,7 @@ use Rattle.loading.specs.declared.Outcome.{Outcome}
 use Rattle.loading.specs.declared.Outcome.the-variants.{Refused, Waits, Next, Ready}
 use Rattle.image.specs.declared.load.LoadOutcome.the-variants as Load
 use Rattle.loading.specs.View.{keeps-words, memory-in, as-loading, Loading-within, Memory-within, Starts, Starts-sizing}
-use Rattle.loading.specs.Record.{outcome-image, Goes, Outcome-within, Kept, Word-taken, Recorded-as}
+use Rattle.loading.specs.Record.{outcome-image, Goes, Outcome-within, Word-taken, Recorded-as}
 use Rattle.loading.specs.declared.Recorded.{Recorded}
 use Rattle.loading.proofs.RecordLaws.{within-now, goes-next}
 use Rattle.image.specs.Load.{Loaded-so-far, Word-if, Word-loaded, Words-loaded, Loaded-as}

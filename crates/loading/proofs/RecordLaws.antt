@@ -14,7 +14,7 @@ use Rattle.model.specs.Questions.{ask}
 use Rattle.model.specs.Run.{unless-refused}
 use Rattle.model.specs.Image as Image
 use Rattle.model.specs.Image.{Mark, ME, ST, WD, RN, mark-of, start-size, record-size, number-at, delivery-at, has, memory-of, or-else, in-order, memory-allowed, address-allowed, unless-written, address-new, record-questions, with-written, words-with, with-word, with-record, record-on, whole-record-on, image-after}
-use Rattle.model.proofs.ImageLaws.{record-has-a-mark, image-is-records, number-at-front}
+use Rattle.formats.proofs.ImageLaws.{record-has-a-mark, image-is-records, number-at-front}
 use Rattle.model.proofs.BranchLaws.{cond-holds}
 use Rattle.fields.proofs.MarkLaws.{mark-of-record}
 use Rattle.addresses.specs.Set.{in-set}
@@ -98,33 +98,39 @@ memory-length n m h =
 
 -- what 51 was asked of has its size still
 module _ (v : Image.Rules) (a : ℕ) (m : List ℕ) (answer : Bool) (m-asked : List ℕ) (asked : Asked-51 v a m answer m-asked) where
-  pub asked-length : length m-asked ≡ length m
-  asked-length = asked .size-same
-
-  pub asked-has-set : (b : Bool) → Store-sized b (length m) → 128 ≤ length m-asked
-  asked-has-set b s = let y = asked .size-same in let h = has-set b m s in omega arith
+  pub asked-sized : (b : Bool) → Store-sized b (length m) → Store-sized b (length m-asked)
+  asked-sized b s = subst (Store-sized b) (sym (asked .size-same)) s
 
   pub asked-kept : answer ≡ false → m-asked ≡ m
   asked-kept e = asked .kept e
 
 put-length : (a w : ℕ) (m : List ℕ) → length (word-put a w m) ≡ length m
 unfolding word-put
-put-length a w m = cond-holds (λ (xs : List ℕ). length xs ≡ length m) (ltb a (length m - 128)) (λ _. length-set m a w) (λ _. refl)
+put-length a w m = cond-holds (λ (xs : List ℕ). length xs ≡ length m) (ltb 128 (length m)) (λ _. length-set m a w) (λ _. refl)
 
 pub put-size : (v : Image.Rules) (a w : ℕ) (m : List ℕ) (answer : Bool) (m-asked m-now : List ℕ) → Asked-51 v a m answer m-asked → m-now ≡ word-put a w m-asked →
     length m-now ≡ length m
 put-size v a w m answer m-asked m-now asked e = ap length e ∙ put-length a w m-asked ∙ asked .size-same
 
 module _ (a w : ℕ) (m : List ℕ) where
-  pub put-inside : a < length m - 128 → set m a w ≡ word-put a w m
+  pub put-inside : 128 < length m → set m a w ≡ word-put a w m
   unfolding word-put
-  put-inside h = rw (lt-ltb a (length m - 128) h) refl
+  put-inside h = rw (lt-ltb 128 (length m) h) refl
 
-  pub put-nowhere : length m - 128 ≤ a → m ≡ word-put a w m
+  pub put-nowhere : length m ≤ 128 → m ≡ word-put a w m
   unfolding word-put
-  put-nowhere h = rw (le-ltb a (length m - 128) h) refl
+  put-nowhere h = rw (le-ltb 128 (length m) h) refl
 
-pub ruleset puts = (put-inside, put-nowhere)
+-- a store with more than the set has all of memory
+pub inside-store : (v : Bool) (m : List ℕ) (a : ℕ) → Store-sized v (length m) → 128 < length m → a < 8192 → a < length m
+unfolding Store-sized
+inside-store v m a s h g = by-size s
+  where
+    by-size : (length m ≡ 8320) ⊎ ((length m ≡ 128) × (v ≡ false)) → a < length m
+    by-size (inl e) = omega arith
+    by-size (inr e) = absurd (let q = e .0 in omega arith)
+
+pub ruleset puts = (put-inside, put-nowhere, inside-store)
 
 -- A WORD PUT is the model's, by either store
 record Put-as (v : Bool) (n a w : ℕ) (m m-next : List ℕ) : Type 0 where
@@ -250,7 +256,7 @@ module _ (x : Loading) (m bs : List ℕ) (e : Bool) (is-marked : mark-of bs ≡ 
           loading-front WD x m bs is-marked whole rest
           ∙ rw (h, address, sized, lt-ltb _ _ g, may-be, n, word, put, p .rules-next, p .memory-next, p .set-next)
 
-pub ruleset word-loaded = (not-true, not-false, within-still, address-within, has-set, asked-has-set, asked-kept, put-size, wd-before-me, wd-outside, wd-written, wd-loaded)
+pub ruleset word-loaded = (not-true, not-false, within-still, address-within, asked-sized, asked-kept, put-size, wd-before-me, wd-outside, wd-written, wd-loaded)
 
 -- A WD AS A RECORD
 module _ (l : Loading) (m bs : List ℕ) (n : ℕ) (m-now : List ℕ) (w : Word-taken (l .«is_stored») (l .«has_memory») (l .words) m bs n m-now) (within : Loading-within l m) where

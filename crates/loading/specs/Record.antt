@@ -56,7 +56,7 @@ pub record Asked-51 (v : Image.Rules) (a : ℕ) (m : List ℕ) (answer : Bool) (
 
 -- a word in its place, where the store has memory
 unfoldable pub word-put : (address word : ℕ) → (store : List ℕ) → List ℕ
-word-put a v m = cond (ltb a (length m - 128)) (set m a v) m
+word-put a v m = cond (ltb 128 (length m)) (set m a v) m
 
 -- WD: the number of a no, or 0 where its word was taken; and that by what it looks at of the records so far, whatever the rest is
 unfoldable pub word-outcome : (answer : ℕ) → Outcome

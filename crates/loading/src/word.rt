@@ -1,7 +1,7 @@
 // WD: 42, 44 and 51, and what it loads.
 ghost use mathlib.Core.Path.{_≡_};
 ghost use mathlib.Core.Option.{some};
-ghost use Prim.Native.Nat.{_≤_, _<_};
+ghost use Prim.Native.Nat.{_-_, _≤_, _<_};
 ghost use lib.ListN.{length};
 ghost use Rattle.model.specs.Image as Image;
 ghost use Rattle.loading.specs.Record.{Asked-51, word-put, Word-taken, Recorded-in-store};
@@ -12,15 +12,26 @@ use crate::Recorded;
 use fields::number::number_4;
 use fields::number::number_8;
 
+// Where the set starts: after memory, if the store has any. Whether it has is the same for every WD, so that a loop asks it once.
+fn set_start(is_stored: bool, store: &[u64]) -> usize
+    requires { ⌜ Store-sized «is_stored» (length (now store)) ⌝ }
+    ensures { λ at. ⌜ at ≡ length (now (store .entry)) - 128 ⌝ }
+{
+    if 128 < store.len() {
+        return 8192;
+    }
+    0
+}
+
 // 51: whether a WD may write the address; today it is then among those that one has had.
 fn may_write(is_stored: bool, store: &mut [u64], address: usize) -> bool
-    requires { ⌜ (128 ≤ length (now store)) × (address < 8192) ⌝ }
+    requires { ⌜ Store-sized «is_stored» (length (now store)) × (address < 8192) ⌝ }
     ensures { λ r. ⌜ Asked-51 (rules-of «is_stored») address (now (store .entry)) r (now (store .exit)) ⌝ }
 {
     if is_stored {
         return true;
     }
-    let at = store.len() - 128;
+    let at = set_start(is_stored, store);
     if addresses::is_in(&store[at..], address) {
         return false;
     }
@@ -29,11 +40,11 @@ fn may_write(is_stored: bool, store: &mut [u64], address: usize) -> bool
 }
 
 // A word of memory, where the store has any.
-fn put_word(store: &mut [u64], address: usize, word: u64)
-    requires { ⌜ 128 ≤ length (now store) ⌝ }
+fn put_word(is_stored: bool, store: &mut [u64], address: usize, word: u64)
+    requires { ⌜ Store-sized «is_stored» (length (now store)) × (address < 8192) ⌝ }
     ensures { λ _. ⌜ now (store .exit) ≡ word-put address word (now (store .entry)) ⌝ }
 {
-    if address < store.len() - 128 {
+    if 128 < store.len() {
         store[address] = word;
     }
 }
@@ -61,7 +72,7 @@ pub fn take_word(
     if !may_write(is_stored, store, i) {
         return 51;
     }
-    put_word(store, i, number_8(bytes, 6));
+    put_word(is_stored, store, i, number_8(bytes, 6));
     0
 }
 

@@ -8,7 +8,7 @@ use lib.ListN.{length, getD, set, take, drop, drop-of-length-le}
 use lib.Seq.{take-all, drop-cons, append-snoc, take-suc-set, drop-set-lt}
 use borrow.Author.Tests.{ne-eqb}
 use Rattle.model.specs.Old.{Way, form-questions, converted-word, Answer, or-fails, words-answer, convert-words}
-use Rattle.model.proofs.OldLaws.{all-written}
+use Rattle.formats.proofs.OldLaws.{all-written}
 
 -- THE WORDS STILL TO COME give the answer of all
 module _ (y : Way) (i : ℕ) (ws : List ℕ) (z : words-answer y i (drop i ws) ≡ words-answer y 0 ws) where

@@ -9,7 +9,7 @@ use lib.Seq.{length-take-le}
 use borrow.Author.Tests.{eq-eqb, ne-eqb}
 use Rattle.model.specs.Listing.{ascii, decimal, line}
 use Rattle.model.specs.Old.{Way, words-at, words-bytes, Converted, convert-words, converted-text, words-text}
-use Rattle.model.proofs.OldLaws.{conversion-within}
+use Rattle.formats.proofs.OldLaws.{conversion-within}
 use Rattle.text.specs.Text.{placed, Put}
 use Rattle.text.proofs.TextLaws.{length-placed, both-put}
 use Rattle.parts.proofs.PartLaws.{ended}

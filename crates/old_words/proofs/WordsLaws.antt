@@ -10,7 +10,7 @@ use lib.Seq.{take-all, take-suc-set, drop-cons}
 use Rattle.model.specs.Image.{number-at}
 use Rattle.model.specs.Write.{bytes}
 use Rattle.model.specs.Old.{words-at, words-bytes}
-use Rattle.model.proofs.WriteLaws.{length-bytes}
+use Rattle.formats.proofs.WriteLaws.{length-bytes}
 use Rattle.text.specs.Text.{placed, Put}
 use Rattle.text.proofs.TextLaws.{placed-none, rest-to-put}
 

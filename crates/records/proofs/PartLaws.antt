@@ -9,7 +9,7 @@ use lib.ListN.{length, length-append}
 use borrow.Author.Tests.{lt-leb}
 use Rattle.model.specs.Image as Image
 use Rattle.model.specs.Image.{mark-of, record-size, refused-image, marked-on, bytes-on, image-after}
-use Rattle.model.proofs.ImageLaws.{image-record-by-record, image-needs-rn}
+use Rattle.formats.proofs.ImageLaws.{image-record-by-record, image-needs-rn}
 use Rattle.fields.specs.declared.mark.Mark.{Mark}
 use Rattle.fields.specs.declared.mark.Mark.the-variants.{Memory, Start, Word, Run, Unknown}
 use Rattle.loading.specs.declared.Loading.{Loading}

@@ -7,7 +7,7 @@ use native.Mathlib.Omega.{arith}
 use lib.Dec.{ltb, eqb, eqb·suc-zero}
 use lib.ListN.{length}
 use Rattle.model.specs.Image.{Image, refused-image, loaded, stored-image}
-use Rattle.model.proofs.ConvertLaws.{rules-agree}
+use Rattle.formats.proofs.ConvertLaws.{rules-agree}
 use Rattle.model.specs.Bench.{negated, call-refused, call-wrote, bench-on, bench}
 use Rattle.reference.specs.Run as Run03
 use Rattle.reference.specs.Entry as Entry03

@@ -12,7 +12,7 @@ use Rattle.model.specs.Questions.{start-questions}
 use Rattle.model.specs.Step.{pointer-words}
 use Rattle.model.specs.Run.{spent, halted, fault, Ran, ran, run, Traced, trace, total-of, total}
 use Rattle.model.specs.Image.{loaded, stored-image}
-use Rattle.model.proofs.ConvertLaws.{today-as-stored}
+use Rattle.formats.proofs.ConvertLaws.{today-as-stored}
 use Rattle.model.specs.Listing.{ascii, digits, decimal, line, step-line, step-lines, last-line, listing, image-listing, image-text}
 use Rattle.model.specs.Answers.{numbers, reply-numbers}
 use Rattle.model.specs.Ends.{Ends, by-refusal, by-fault, by-halt, by-budget}

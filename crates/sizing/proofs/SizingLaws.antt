@@ -11,8 +11,8 @@ use Rattle.model.specs.Image as Image
 use Rattle.model.specs.Image.{checked, image-after, nothing-loaded, sizing}
 use Rattle.model.specs.Needs.{Needs, needs-refused, needs-of, word-count, needs-on, image-needs}
 use Rattle.model.specs.Convert.{records}
-use Rattle.model.proofs.ImageLaws.{checked-refused, checked-passed}
-use Rattle.model.proofs.NeedsLaws.{needs-by-length}
+use Rattle.formats.proofs.ImageLaws.{checked-refused, checked-passed}
+use Rattle.formats.proofs.NeedsLaws.{needs-by-length}
 use Rattle.host.specs.declared.record.Registers.{Registers}
 use Rattle.host.specs.Record.{machine-of, delivery-of, Answers-any}
 use Rattle.loading.specs.declared.Loading.{Loading}

@@ -8,7 +8,7 @@ use lib.ListN.{length}
 use borrow.Author.Tests.{not-true, not-false, le-leb, lt-leb, eq-eqb}
 use Rattle.model.specs.Questions.{ask, all, memory-fits, dbr-fits}
 use Rattle.model.specs.Brackets.{Row, row-fits, table-fits, segments-questions, table-questions, with-rows, set-brackets}
-use Rattle.model.proofs.BracketLaws.{accepted, refused-same, accepted-written}
+use Rattle.formats.proofs.BracketLaws.{accepted, refused-same, accepted-written}
 use Rattle.tables.specs.View.{base}
 
 -- IN ORDER

@@ -10,7 +10,7 @@ use borrow.Author.Tests.{eq-eqb, ne-eqb}
 use Rattle.model.specs.Questions.{all}
 use Rattle.model.specs.Brackets.{Row, rows-of, row-fits, flag-bit, bracket-bits, with-brackets, by-row, with-rows}
 use Rattle.model.proofs.BranchLaws.{and-left}
-use Rattle.model.proofs.BracketLaws.{row-within, all-rows-of, bracket-bits-within}
+use Rattle.formats.proofs.BracketLaws.{row-within, all-rows-of, bracket-bits-within}
 use Rattle.tables.specs.View.{as-row, as-rows}
 use Rattle.tables.specs.Next.{Next-row}
 use Rattle.tables.proofs.RowLaws.{row-is-its, none-of-none}

@@ -5,7 +5,7 @@ use Prim.Native.Nat.{ℕ, suc, _+_, _-_, _/_, _%_, _≤_, _<_}
 use native.Mathlib.Omega.{arith}
 use lib.ListN.{length, set, length-set}
 use Rattle.model.specs.Write.{bytes}
-use Rattle.model.proofs.WriteLaws.{length-bytes, bytes-last}
+use Rattle.formats.proofs.WriteLaws.{length-bytes, bytes-last}
 use Rattle.text.specs.Text.{placed}
 use Rattle.text.proofs.TextLaws.{placed-none, placed-last}
 

@@ -9,7 +9,7 @@ use lib.Seq.{drop-cons}
 use Rattle.model.specs.Words.{Pointer}
 use Rattle.model.specs.Registers.{zero-pointer}
 use Rattle.model.specs.Write.{pointer-bytes, pointers-bytes}
-use Rattle.model.proofs.WriteLaws.{length-pointer-bytes, length-pointers-bytes}
+use Rattle.formats.proofs.WriteLaws.{length-pointer-bytes, length-pointers-bytes}
 use Rattle.state.specs.View.{pointers-in, as-pointers, pr-of}
 use Rattle.text.specs.Text.{placed, Put}
 use Rattle.text.proofs.TextLaws.{placed-none, rest-to-put}

@@ -9,7 +9,7 @@ use lib.Dec.{eqb}
 use lib.ListN.{length, getD, drop, length-append, length-drop, drop-of-length-le}
 use lib.Seq.{drop-cons}
 use Rattle.model.specs.Write.{WD-record, word-records}
-use Rattle.model.proofs.WriteLaws.{length-word-records}
+use Rattle.formats.proofs.WriteLaws.{length-word-records}
 use Rattle.text.specs.Text.{placed, Put}
 use Rattle.text.proofs.TextLaws.{placed-none, rest-to-put}
 

@@ -57,8 +57,8 @@ fn main() -> ExitCode {
         (Some("quick"), 1) => Plan {
             seed: 1,
             grids: 3,
-            machines: 3_000_000,
-            pairs: 500_000,
+            machines: 1_500_000,
+            pairs: 250_000,
             images: 100_000,
             damaged: 60,
             few: 100_000,

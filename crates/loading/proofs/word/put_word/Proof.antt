@@ -4,14 +4,11 @@ use Rattle.loading.proofs.RecordLaws.{puts}
 use Rattle.loading.proofs.word.put_word.Statement.{statement}
 use Rattle.loading.proofs.word.put_word.Tie as tie
 
-sub-if1 : tie.Need-sub-if1
-sub-if1 c = search needs
-
 mul-store : tie.Need-mul-store
 mul-store c = search needs
 
 slice-write-store : tie.Need-slice-write-store
-slice-write-store c = search needs
+slice-write-store c = search (needs, puts)
 
 same-length : tie.Need-same-length
 same-length c = search needs
@@ -23,5 +20,4 @@ returns-2 : tie.Need-returns-2
 returns-2 c = search (needs, puts)
 
 pub put-word-spec : {M : Type 1} → statement M
-put-word-spec =
-    tie.close (tie.spec sub-if1 mul-store slice-write-store same-length returns returns-2)
+put-word-spec = tie.close (tie.spec mul-store slice-write-store same-length returns returns-2)

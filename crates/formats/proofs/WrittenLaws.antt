@@ -11,20 +11,20 @@ use lib.Dec.{leb, eqb}
 use lib.ListN.{length, take, drop, set, replicate, length-append, length-replicate}
 use lib.Seq.{drop-append-add, getD-at, set-at, append-snoc}
 use borrow.Author.Tests.{leb-true, le-leb, lt-ltb, eqb-true, ne-eqb}
 use Rattle.model.specs.Words.{Pointer}
 use Rattle.model.specs.Registers.{Delivery, no-delivery, Machine, machine}
 use Rattle.model.specs.Questions.{all, ask, pointer-in-range, delivery-in-range, dbr-fits}
 use Rattle.model.specs.Run.{unless-refused}
 use Rattle.model.specs.Image.{today, Mark, ME, ST, WD, RN, marked, mark-of, start-size, record-size, big-endian, number-at, pointer-at, pointers-at, registers-at, delivery-at, Loading, nothing-loaded, has, or-else, memory-of, machine-of, in-order, memory-allowed, address-allowed, unless-written, address-new, record-questions, with-written, words-with, with-word, with-record, checked, record-on, whole-record-on, image-after, image}
 use Rattle.model.specs.Listing.{ascii}
 use Rattle.model.specs.Write.{bytes, pointer-bytes, pointers-bytes, ME-record, stored-ST, delivery-bytes, ST-record, WD-record, RN-record, word-records, written-image}
 use Rattle.model.specs.Written.{Writable, Written-loads}
 use Rattle.model.proofs.BranchLaws.{and-left, and-right, cond-holds}
 use Rattle.model.proofs.WordLaws.{Within, in-range-within}
-use Rattle.model.proofs.WriteLaws.{length-ME, length-RN, length-WD, length-stored-ST, length-ST}
+use Rattle.formats.proofs.WriteLaws.{length-ME, length-RN, length-WD, length-stored-ST, length-ST}
 use Rattle.model.proofs.FitLaws.{Fit}
 use Rattle.model.proofs.SoundLaws.{passing-fits, delivery-passes}
-use Rattle.model.proofs.ImageLaws.{registers-at-front, image-is-records, checked-passed}
+use Rattle.formats.proofs.ImageLaws.{registers-at-front, image-is-records, checked-passed}
 
 -- NUMBERS read back: what came before n bytes of v is v's part above them
 bytes-read-on : (n v : ℕ) → big-endian (v / 256 ^ n) (bytes n v) ≡ v

@@ -8,14 +8,14 @@ use native.Mathlib.Omega.{arith}
 use lib.Dec.{eqb}
 use lib.ListN.{length, length-append}
 use borrow.Author.Tests.{not-true, lt-leb, eqb-true}
 use Rattle.model.specs.Registers.{Delivery, Machine}
 use Rattle.model.specs.Run.{unless-refused}
 use Rattle.model.specs.Image.{Rules, Mark, ME, ST, WD, RN, mark-of, record-size, Loading, has, in-order, memory-allowed, address-allowed, address-new, record-questions, with-word, with-record, Image, refused-image, loaded, record-on, whole-record-on, marked-on, bytes-on, image-after}
 use Rattle.model.specs.Convert.{size-by, front-size, joined, is-start}
 use Rattle.model.proofs.BranchLaws.{and-left, and-right}
 use Rattle.model.proofs.QuestionLaws.{ask-yes}
-use Rattle.model.proofs.ImageLaws.{record-has-a-mark, image-record-by-record, image-is-records}
-use Rattle.model.proofs.CutLaws.{too-short, Whole, All-whole}
+use Rattle.formats.proofs.ImageLaws.{record-has-a-mark, image-record-by-record, image-is-records}
+use Rattle.formats.proofs.CutLaws.{too-short, Whole, All-whole}
 
 -- A RECORD IN FRONT of others
 module _ {v : Rules} (l : Loading) (r : l .rules ≡ v) (x : List ℕ) (xs : List (List ℕ)) (t : List ℕ) (w : Whole v x) where

@@ -7,15 +7,15 @@ use Prim.Native.Nat.{ℕ, suc, _+_}
 use native.Mathlib.Omega.{arith}
 use lib.ListN.{length, take, drop, replicate, length-append, take-append-drop}
 use lib.Seq.{take-append-add, drop-append-add}
 use Rattle.model.specs.Registers.{Delivery, Machine}
 use Rattle.model.specs.Image.{stored, today, ME, ST, WD, RN, Mark, mark-of, nothing-loaded, has, memory-of, or-else, loaded, image-after, image, stored-image}
 use Rattle.model.specs.Convert.{front-size, records, joined, left-over, some-writes, last-of-each, kept-of, added, renewed, compacted, is-start, start-end, with-zeros-at, convert-on, convert-after, convert}
 use Rattle.model.specs.Converted.{Sublist, none-left, kept, dropped, One-an-address, with-todays-start, Rules-agree, Today-as-stored, Converted-loads, Refused-converts, Converted-records, Converted-is-sublist}
-use Rattle.model.proofs.CutLaws.{All-whole, joined-records, joined-left-over, cut}
-use Rattle.model.proofs.LastLaws.{none-lost, last-of-each-sublist, last-of-each-once, last-of-each-whole, kept-records, kept-left-over, compacted-in-two}
-use Rattle.model.proofs.FrontLaws.{accepted-whole, starts, accepted-starts}
-use Rattle.model.proofs.OverwrittenLaws.{last-of-each-loads}
-use Rattle.model.proofs.OnceLaws.{all-whole-renewed, some-writes-renewed, once-renewed, no-record-today, as-stored, today-as-stored-where-once, accepted-once}
+use Rattle.formats.proofs.CutLaws.{All-whole, joined-records, joined-left-over, cut}
+use Rattle.formats.proofs.LastLaws.{none-lost, last-of-each-sublist, last-of-each-once, last-of-each-whole, kept-records, kept-left-over, compacted-in-two}
+use Rattle.formats.proofs.FrontLaws.{accepted-whole, starts, accepted-starts}
+use Rattle.formats.proofs.OverwrittenLaws.{last-of-each-loads}
+use Rattle.formats.proofs.OnceLaws.{all-whole-renewed, some-writes-renewed, once-renewed, no-record-today, as-stored, today-as-stored-where-once, accepted-once}
 
 -- BOTH RULES on an image by its records
 module _ (bs : List ℕ) where

@@ -7,16 +7,16 @@ use native.Mathlib.Omega.{arith}
 use lib.Dec.{eqb}
 use lib.ListN.{length, getD, length-map}
 use borrow.Author.Tests.{eqb-true, eq-eqb, ne-eqb, le-leb, lt-ltb}
 use Rattle.model.specs.Words.{field, on, Descriptor, descriptor-in}
 use Rattle.model.specs.Questions.{ask, segment-questions}
 use Rattle.model.specs.Brackets.{Row, flag-bit, bracket-bits, with-brackets}
 use Rattle.model.specs.Old.{old-descriptor-in, Way, from-old, to-old, rest-is-zero, rings-are, has-old-form, form-questions, renewed-word, old-word, converted-word, Answer, or-fails, words-answer, convert-words}
 use Rattle.model.specs.Renewed.{Renewed-by-fields, Old-by-fields, Renewed-passes, Segment-converts, Segment-refused, way-back, Comes-back}
 use Rattle.model.proofs.BranchLaws.{and-left, and-right, and-both, or-left, or-right}
 use Rattle.model.proofs.WordLaws.{field-within-width}
 use Rattle.model.proofs.QuestionLaws.{ask-yes}
-use Rattle.model.proofs.BracketLaws.{Row-within}
-use Rattle.model.proofs.BracketingLaws.{fields-of-row}
+use Rattle.formats.proofs.BracketLaws.{Row-within}
+use Rattle.formats.proofs.BracketingLaws.{fields-of-row}
 
 -- A BIT of a word is its flag's
 bit-is-flag : (n : ℕ) → n ≤ 1 → flag-bit n ≡ n

@@ -9,16 +9,16 @@ use lib.Dec.{eqb}
 use lib.ListN.{length, take, drop, replicate, length-append, length-set, length-replicate}
 use lib.Seq.{drop-append-add}
 use borrow.Author.Tests.{not-true, eqb-true, ltb-true, leb-true, lt-leb, eq-eqb, ne-eqb}
 use Rattle.model.specs.Registers.{Delivery, no-delivery, Machine}
 use Rattle.model.specs.Questions.{ask}
 use Rattle.model.specs.Image.{stored, today, Mark, ME, ST, WD, RN, mark-of, start-size, record-size, number-at, big-endian, delivery-at, Loading, has, memory-of, or-else, machine-of, in-order, memory-allowed, address-allowed, unless-written, address-new, record-questions, with-written, words-with, with-word, with-record, Image, loaded, record-on, image-after}
 use Rattle.model.specs.Convert.{size-by, front-size, joined, is-word, writes, some-writes, superseded, added, renewed}
 use Rattle.model.specs.Converted.{One-an-address}
 use Rattle.model.proofs.BranchLaws.{or-left, or-right, or-none}
-use Rattle.model.proofs.ImageLaws.{record-has-a-number, mark-of-front, number-at-front, registers-at-front, questions-front}
-use Rattle.model.proofs.CutLaws.{too-short, Whole, All-whole}
-use Rattle.model.proofs.LastLaws.{not-a-word, word-writes, writes-its-own}
-use Rattle.model.proofs.FrontLaws.{image-front, part-refused, whole-same, ordered, allowed, new, last-has-none, records-have-bytes, passed}
+use Rattle.formats.proofs.ImageLaws.{record-has-a-number, mark-of-front, number-at-front, registers-at-front, questions-front}
+use Rattle.formats.proofs.CutLaws.{too-short, Whole, All-whole}
+use Rattle.formats.proofs.LastLaws.{not-a-word, word-writes, writes-its-own}
+use Rattle.formats.proofs.FrontLaws.{image-front, part-refused, whole-same, ordered, allowed, new, last-has-none, records-have-bytes, passed}
 
 -- A RENEWED RECORD is whole by today's sizes, and its mark, address and word are what they were
 sizes-renewed : (k : Mark) → record-size stored k + length (added (some k)) ≡ record-size today k

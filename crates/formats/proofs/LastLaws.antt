@@ -6,11 +6,11 @@ use mathlib.Core.List.{List, [], _∷_, _++_, map, append-nil, append-assoc}
 use Prim.Native.Nat.{ℕ, _<_}
 use lib.Dec.{ltb, eqb}
 use borrow.Author.Tests.{eqb-true, lt-ltb, eq-eqb}
 use Rattle.model.specs.Image.{Rules, stored, Mark, WD, mark-of, number-at}
 use Rattle.model.specs.Convert.{records, joined, left-over, is-word, writes, some-writes, superseded, last-of-each, kept-of, renewed, compacted}
 use Rattle.model.specs.Converted.{Sublist, none-left, kept, dropped, One-an-address, with-todays-start}
 use Rattle.model.proofs.BranchLaws.{cond-holds, and-left, and-right, or-left}
-use Rattle.model.proofs.CutLaws.{All-whole, joined-front, left-over-after, joined-records, joined-left-over, cut}
+use Rattle.formats.proofs.CutLaws.{All-whole, joined-front, left-over-after, joined-records, joined-left-over, cut}
 
 or-known : (a b : Bool) → (a ≡ true → b ≡ true) → (a || b) ≡ b
 or-known true b f = sym (f refl)

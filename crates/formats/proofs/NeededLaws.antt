@@ -7,16 +7,16 @@ use native.Mathlib.Omega.{arith}
 use lib.Dec.{ltb, eqb}
 use lib.ListN.{length}
 use borrow.Author.Tests.{ne-eqb}
 use Rattle.model.specs.Registers.{Delivery, Machine}
 use Rattle.model.specs.Run.{Reply, refused, spent, halted, fault, run, Traced, trace, total}
 use Rattle.model.specs.Answers.{reply-numbers}
 use Rattle.model.specs.Listing.{ascii, digits, decimal, line, step-line, step-lines, refusal-line, last-line, listing, image-listing, image-text}
 use Rattle.model.specs.Needs.{Needs, needs-of, image-needs}
 use Rattle.model.specs.Needed.{lines-in, Needs-enough, Text-within}
 use Rattle.model.proofs.BranchLaws.{cond-holds}
 use Rattle.model.proofs.CountLaws.{run-counts}
 use Rattle.model.proofs.CountedLaws.{total-within}
-use Rattle.model.proofs.NeedsLaws.{needs-are-accepted}
+use Rattle.formats.proofs.NeedsLaws.{needs-are-accepted}
 
 -- LINES of two texts, one after the other
 lines-append : (xs ys : List ℕ) → lines-in (xs ++ ys) ≡ lines-in xs + lines-in ys

@@ -7,19 +7,19 @@ use native.Mathlib.Omega.{arith}
 use lib.Dec.{eqb}
 use lib.ListN.{length, getD, set}
 use borrow.Author.Tests.{eqb-true, eq-eqb, ne-eqb}
 use Rattle.model.specs.Words.{field, on, descriptor-in}
 use Rattle.model.specs.Registers.{Dbr, Delivery, Machine, machine}
 use Rattle.model.specs.Questions.{ask, all, memory-fits, start-questions}
 use Rattle.model.specs.Image.{loaded, image}
 use Rattle.model.specs.Write.{written-image}
 use Rattle.model.specs.Written.{Writable}
 use Rattle.model.specs.Brackets.{Row, in-row, rows-of, row-fits, table-fits, one-row, segments-questions, table-questions, flag-bit, bracket-bits, with-brackets, by-row, with-rows, set-brackets, bracketed-text, image-bracketed}
 use Rattle.model.specs.Bracketing.{Refused-table-writes-nothing, Fields-of-row, Set-by-row, Table-sets-fields, Table-keeps-others, Table-keeps-size, Permuted, same, behind, exchanged, and-then, Order-of-rows-free, Bracketed-loads}
 use Rattle.model.proofs.BranchLaws.{by-equality, cond-rel, and-left}
 use Rattle.model.proofs.ListLaws.{Each-word, each-word-set}
-use Rattle.model.proofs.WrittenLaws.{written-loads}
+use Rattle.formats.proofs.WrittenLaws.{written-loads}
 use Rattle.model.proofs.QuestionLaws.{then-ask-yes, then-ask-same}
-use Rattle.model.proofs.BracketLaws.{Row-within, row-within, all-rows-of, Only-row, one-row-only, each-segment-passes, Accepted, accepted, flag-bit-within, bracket-bits-within, length-with-rows, with-rows-other, with-rows-own, refused-same, accepted-written}
+use Rattle.formats.proofs.BracketLaws.{Row-within, row-within, all-rows-of, Only-row, one-row-only, each-segment-passes, Accepted, accepted, flag-bit-within, bracket-bits-within, length-with-rows, with-rows-other, with-rows-own, refused-same, accepted-written}
 
 pub refused-table-writes-nothing : Refused-table-writes-nothing
 refused-table-writes-nothing m b rows h = refused-same m b rows h

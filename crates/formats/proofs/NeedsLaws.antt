@@ -8,17 +8,17 @@ use native.Mathlib.Omega.{arith}
 use lib.Dec.{leb, eqb, lit≤}
 use lib.ListN.{length, take, drop, length-append, length-set}
 use borrow.Author.Tests.{not-true}
 use Rattle.model.specs.Registers.{Delivery, Machine, machine}
 use Rattle.model.specs.Questions.{start-questions}
 use Rattle.model.specs.Run.{unless-refused}
 use Rattle.model.specs.Image.{today, sizing, Mark, ME, ST, WD, RN, mark-of, start-size, record-size, number-at, delivery-at, Loading, nothing-loaded, has, or-else, memory-of, zero-registers, machine-of, in-order, address-allowed, unless-written, address-new, record-questions, with-written, words-with, with-word, with-record, Image, refused-image, loaded, checked, record-on, whole-record-on, marked-on, bytes-on, image-from, image-after, image}
 use Rattle.model.specs.Convert.{size-by, front-size, records-from, records, joined, left-over, is-word}
 use Rattle.model.specs.Needs.{needs-of, word-count, needs-on, image-needs}
 use Rattle.model.specs.Needed.{Needs-refused, Needs-accepted, Needs-by-length}
 use Rattle.model.proofs.BranchLaws.{cond-rel, cond-holds, and-left, and-right}
 use Rattle.model.proofs.QuestionLaws.{asked-by-size}
-use Rattle.model.proofs.CutLaws.{All-whole, cut}
-use Rattle.model.proofs.FrontLaws.{part-refused, ordered, last-has-none, records-have-bytes, passed}
+use Rattle.formats.proofs.CutLaws.{All-whole, cut}
+use Rattle.formats.proofs.FrontLaws.{part-refused, ordered, last-has-none, records-have-bytes, passed}
 
 -- A LOADING WITHOUT WORDS, and one by today's rules that differs from it in these alone
 record Alike (l j : Loading) : Type 0 where

@@ -9,10 +9,10 @@ use lib.Dec.{leb, eqb}
 use lib.ListN.{length, take, drop, length-append, length-drop, take-append-drop}
 use lib.Seq.{length-take-le, drop-append-add, drop-at, take-at}
 use borrow.Author.Tests.{leb-true, leb-false, le-leb, eqb-false, eq-eqb, ne-eqb}
 use Rattle.model.specs.Image.{Rules, Mark, mark-of, record-size}
 use Rattle.model.specs.Convert.{size-by, front-size, records-from, records, joined, left-over}
 use Rattle.model.proofs.BranchLaws.{cond-rel, cond-holds}
-use Rattle.model.proofs.ImageLaws.{record-has-a-mark, mark-of-front}
+use Rattle.formats.proofs.ImageLaws.{record-has-a-mark, mark-of-front}
 
 joined-append : (xs ys : List (List ℕ)) → joined (xs ++ ys) ≡ joined xs ++ joined ys
 unfolding joined

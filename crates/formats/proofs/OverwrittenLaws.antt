@@ -8,14 +8,14 @@ use lib.Dec.{eqb}
 use lib.ListN.{length, set, length-set}
 use lib.Seq.{set-set, set-comm}
 use borrow.Author.Tests.{eqb-true, eqb-false}
 use Rattle.model.specs.Registers.{Delivery, Machine}
 use Rattle.model.specs.Run.{unless-refused}
 use Rattle.model.specs.Image.{Mark, ME, ST, WD, RN, mark-of, number-at, stored, Loading, has, memory-of, or-else, in-order, address-allowed, unless-written, address-new, record-questions, with-written, words-with, with-word, with-record, Image, loaded, record-on, whole-record-on, image-after}
 use Rattle.model.specs.Convert.{joined, is-word, writes, some-writes, superseded, last-of-each}
 use Rattle.model.proofs.BranchLaws.{cond-holds, and-left, and-right, or-rest}
-use Rattle.model.proofs.CutLaws.{All-whole}
-use Rattle.model.proofs.LastLaws.{not-a-word, none-lost, last-of-each-whole}
-use Rattle.model.proofs.FrontLaws.{image-front, whole-same, ordered, last-has-none, records-have-bytes, passed}
+use Rattle.formats.proofs.CutLaws.{All-whole}
+use Rattle.formats.proofs.LastLaws.{not-a-word, none-lost, last-of-each-whole}
+use Rattle.formats.proofs.FrontLaws.{image-front, whole-same, ordered, last-has-none, records-have-bytes, passed}
 
 -- A WORD THAT A LATER RECORD WRITES may be anything before, by the stored rules
 record Same-but (a : ℕ) (l j : Loading) : Type 0 where
