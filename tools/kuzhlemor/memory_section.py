@@ -107,8 +107,8 @@ def memory(image: Image, found: Dict[int, Descriptor]) -> str:
     dbr_address = image.registers.dbr_address if image.registers else 0
     choose = "" if image.refused else ' <span class="scripted unprinted">Choose a segment to learn where a CALL may go.</span>'
     return f"""<section id="memory"><h2>Memory</h2>
-<p class="note">Addresses from left to right, as the image starts. Each segment is a bar; segments that overlap stand in lanes below
-each other.{choose}</p>
+<p class="note">Addresses from left to right, as the image starts. Each segment is a bar. Those that overlap, or whose names
+would, stand in lanes below each other.{choose}</p>
 <div class="map">{_table_track(drawn.descriptor_segment, words)}
 <div class="track-name">Segments</div>
 <div class="track ground pick{' dense' if drawn.is_dense else ''}" style="height:{height}px">{bars}</div>
