@@ -8,8 +8,6 @@ from checks import TOP, check, run
 
 # A block with a file's name in its first line is that file; one of a console has commands after `$ `.
 _BLOCK = re.compile(r"^```(\S+)(?: (\S+))?\n(.*?)^```$", re.M | re.S)
-# Stands for any lines.
-_ANY = "..."
 _END = "\x01"
 
 
@@ -36,10 +34,6 @@ def _script(guide: str) -> Tuple[str, List[Command]]:
     return "\n".join(lines) + "\n", commands
 
 
-def _pattern(printed: str) -> str:
-    return "".join("(?:.*\n)*" if line == _ANY + "\n" else re.escape(line) for line in printed.splitlines(keepends=True))
-
-
 def check_all(home: Path) -> None:
     """The shell starts in the clone, as the reader does."""
     script, commands = _script((TOP / "docs" / "GUIDE.md").read_text())
@@ -49,5 +43,4 @@ def check_all(home: Path) -> None:
     check(len(commands) > 20, "docs/GUIDE.md: its commands aren't found")
     check(len(printed) == len(commands) + 1, f"docs/GUIDE.md: the shell ended early: {said[-500:]}")
     for command, was in zip(commands, printed):
-        holds = re.fullmatch(_pattern(command.printed), was) is not None
-        check(holds, f"docs/GUIDE.md: $ {command.text}\nprinted:\n{was}and the guide has:\n{command.printed}")
+        check(was == command.printed, f"docs/GUIDE.md: $ {command.text}\nprinted:\n{was}and the guide has:\n{command.printed}")
