@@ -1,4 +1,5 @@
 """What the workbench's tests share: answers checked and counted, the command and the proved programs."""
+import signal
 import subprocess
 import sys
 from pathlib import Path
@@ -51,3 +52,8 @@ def says(answer: subprocess.CompletedProcess, what: str) -> None:
 
 def program(name: str, data: bytes) -> str:
     return run([PROGRAMS / name], data).stdout.decode()
+
+
+def heed_interrupts() -> None:
+    """For a program that is about to start: what a shell has in the background, as the gate has these tests, ignores a Ctrl-C."""
+    signal.signal(signal.SIGINT, signal.SIG_DFL)

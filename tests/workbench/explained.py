@@ -12,7 +12,7 @@ from random import Random
 from typing import Callable, Dict, Optional, Tuple
 
 import drawn
-from checks import COMMAND, EXAMPLES, LIBRARY, PROGRAMS, TOP, check, command, program, run, says
+from checks import COMMAND, EXAMPLES, LIBRARY, PROGRAMS, TOP, check, command, heed_interrupts, program, run, says
 from ends import ENDS, OTHERS, PLAIN, STARTS
 from kuzhlemor import explain
 from kuzhlemor.assemble import assemble
@@ -381,6 +381,7 @@ def streams() -> None:
 def interrupted(endless: bytes) -> None:
     """A Ctrl-C ends the command at once, while it lists and while the library runs, which is after a stand-in's only line."""
     options = {"stdin": subprocess.PIPE, "stdout": subprocess.PIPE, "stderr": subprocess.PIPE, "start_new_session": True}
+    options["preexec_fn"] = heed_interrupts
     workbench = ["python3", "-I", "-B", str(TOP / "tools" / "workbench"), "run", "-", "/bin/echo", str(LIBRARY)]
     for arguments, first in (([COMMAND, "run", "--explain", "-"], b"1 4 0 0 0\n"), (workbench, b"\n")):
         with subprocess.Popen(arguments, **options) as started:

@@ -14,7 +14,7 @@ from random import Random
 from typing import Dict, List, Sequence
 
 import drawn
-from checks import COMMAND, EXAMPLES, LIBRARY, PROGRAMS, TOP, check, command, fail, program, run, says
+from checks import COMMAND, EXAMPLES, LIBRARY, PROGRAMS, TOP, check, command, fail, heed_interrupts, program, run, says
 from kuzhlemor import page as page_module
 from kuzhlemor.assemble import assemble
 from kuzhlemor.calls import Calls, parts
@@ -523,8 +523,9 @@ def ends() -> None:
             says(answer, f"kuzhlemor: no page: {what}")
         endless = Path(work) / "endless.img"
         endless.write_bytes(image_of(ENDLESS))
-        with subprocess.Popen([COMMAND, "page", endless], stdout=subprocess.PIPE, stderr=subprocess.PIPE) as started:
-            time.sleep(1)
+        options = {"stdout": subprocess.PIPE, "stderr": subprocess.PIPE, "preexec_fn": heed_interrupts}
+        with subprocess.Popen([COMMAND, "page", endless], **options) as started:
+            check(b" steps" in started.stderr.readline(), "no progress is told")
             started.send_signal(signal.SIGINT)
             printed, said = started.communicate()
         check(started.returncode == 130 and printed == b"", f"Ctrl-C: {started.returncode} {said.decode()}")
