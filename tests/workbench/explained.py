@@ -392,7 +392,8 @@ def interrupted(endless: bytes) -> None:
             check(started.poll() is None, f"{arguments}: it ended by itself")
             os.killpg(started.pid, signal.SIGINT)
             check(started.wait(20) == 130, f"{arguments}: status {started.returncode}")
-            check(started.stderr.read() == b"", f"{arguments}: something was said")
+            said = started.stderr.read()
+            check(said == b"", f"{arguments}: something was said: {said.decode()}")
 
 
 def check_all() -> None:
