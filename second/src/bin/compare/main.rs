@@ -1,5 +1,6 @@
 //! Compares the second implementation with libkuzhlemor.a: `compare quick`, or `compare long N [SEED]`, which draws
-//! N machines, N images, N tables of brackets and N segments of descriptors beside the directed ones.
+//! N machines, N images, N tables of brackets and N segments of descriptors beside the directed ones. `compare draw N [SEED]`
+//! compares nothing: it prints N images of the same kind, each after its length in four bytes, for other tests.
 
 mod checks;
 mod compare;
@@ -18,6 +19,7 @@ mod secrecy;
 mod tables;
 
 use std::ffi::OsStr;
+use std::io::{BufWriter, Write};
 use std::path::Path;
 use std::process::ExitCode;
 use std::time::Instant;
@@ -48,7 +50,7 @@ struct Plan {
     depth: usize,
 }
 
-const USAGE: &str = "compare quick\ncompare long N [SEED]";
+const USAGE: &str = "compare quick\ncompare long N [SEED]\ncompare draw N [SEED]";
 
 fn main() -> ExitCode {
     let arguments: Vec<String> = std::env::args().skip(1).collect();
@@ -66,6 +68,13 @@ fn main() -> ExitCode {
             tables: 1_000_000,
             segments: 2_000_000,
             depth: 4,
+        },
+        (Some("draw"), 2 | 3) => match number(1) {
+            Some(many) => return print_images(many, number(2).unwrap_or(1)),
+            None => {
+                eprintln!("{USAGE}");
+                return ExitCode::from(2);
+            }
         },
         (Some("long"), 2 | 3) => match (number(1), number(2)) {
             (Some(many), seed) if arguments.len() == 2 || seed.is_some() => Plan {
@@ -255,6 +264,33 @@ fn kept_inputs(plan: &Plan, comparer: &mut Comparer, clock: &mut Clock) -> Resul
     Ok(())
 }
 
+/// A machine for an image, with a budget of so many steps at most.
+fn image_machine(generator: &mut Generator, random: &mut Random, most: u32) -> Machine {
+    let mut machine = Machine::default();
+    generator.draw(random, &mut machine, 0);
+    let budget = budget(random).min(most);
+    generator.code(random, &mut machine, budget);
+    machine
+}
+
+fn print_images(many: u64, seed: u64) -> ExitCode {
+    let mut generator = Generator::new();
+    let random = &mut Random::new(seed.rotate_left(32));
+    let mut output = BufWriter::new(std::io::stdout().lock());
+    for _ in 0..many {
+        let machine = image_machine(&mut generator, random, u32::MAX);
+        let image = images::records(random, &machine).concat();
+        let length = (image.len() as u32).to_be_bytes();
+        if output.write_all(&length).and_then(|()| output.write_all(&image)).is_err() {
+            return ExitCode::FAILURE;
+        }
+    }
+    match output.flush() {
+        Ok(()) => ExitCode::SUCCESS,
+        Err(_) => ExitCode::FAILURE,
+    }
+}
+
 fn all_images(
     plan: &Plan,
     comparer: &mut Comparer,
@@ -265,13 +301,7 @@ fn all_images(
     let differs = |comparer: &mut Comparer, (image, length, difference): images::Failure| {
         image_differs(plan, comparer, "an image", image, length, difference)
     };
-    let mut draw = |random: &mut Random, most: u32| {
-        let mut machine = Machine::default();
-        generator.draw(random, &mut machine, 0);
-        let budget = budget(random).min(most);
-        generator.code(random, &mut machine, budget);
-        machine
-    };
+    let mut draw = |random: &mut Random, most: u32| image_machine(generator, random, most);
     let count = images::sequences(comparer, random, plan.depth).map_err(|failure| differs(comparer, failure))?;
     clock.part(&format!("images: {count}, every sequence of at most {} records", plan.depth));
 

@@ -1,0 +1,1 @@
+"""The workbench: images of the ring processor written as text, shown, and asked about."""
