@@ -13,7 +13,6 @@ ghost use Rattle.brackets.specs.Printed.{Printed};
 use fields::number::number_1;
 use fields::number::number_2;
 use host::record::Registers;
-use libc::STDOUT_FILENO;
 use run::Reply;
 
 // Two bytes of a row as one number, the first the lower.
@@ -107,7 +106,7 @@ fn print_answer(registers: Registers, memory: &mut [u64], budget: u32, rows: &[[
 {
     let mut text = [0u8; 116558];
     let size = put_answer(&mut text, registers, memory, budget, rows);
-    io::write_all(STDOUT_FILENO, &text[..size]);
+    streams::print(&text, size);
 }
 
 // What the image itself is refused for comes first, then the table.

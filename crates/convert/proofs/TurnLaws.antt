@@ -70,13 +70,10 @@ goes-on-within l k store h q = subst (λ j. Loading-within j store) (sym q) h
 pub new-image : (o : Progress) (u : List ℕ) (n : ℕ) → Progress-fits o u → o ≡ Done.Ready n → n ≤ length u
 new-image o u n h q = subst (λ a. Progress-fits a u) q h
 
-pub new-size : (o : Progress) (u : List ℕ) (n : ℕ) → Progress-fits o u → o ≡ Done.Ready n → n ≡ length (take n u)
-new-size o u n h q = sym (length-take-le n u (new-image o u n h q))
-
 pub ruleset outcomes = (more-kept, more-size, ready-fits)
 
 pub ruleset turns = (still-within, still-full, outcome-fits, five-left, goes-on-within)
 
 pub ruleset limits = (limit-size, limit-room, limit-kept)
 
-pub ruleset news = (may-load, new-image, new-size)
+pub ruleset news = (may-load, new-image)

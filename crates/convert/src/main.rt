@@ -5,7 +5,6 @@ ghost use lib.ListN.{length};
 ghost use Rattle.convert.specs.Turn.{Goes-on, Outcome-within, Progress-fits, Room-left, Turn-within};
 use conversion::ConvertOutcome;
 use conversion::Converted;
-use libc::STDOUT_FILENO;
 use loading::Loading;
 use streams::Piece;
 
@@ -153,7 +152,7 @@ fn main() {
             streams::print_refusal(n);
         }
         Progress::Ready(n) => {
-            io::write_all(STDOUT_FILENO, &buffer[..n]);
+            streams::print(&buffer, n);
         }
     }
 }

@@ -1,12 +1,11 @@
 // The laptop's program for the list of doors: an image on standard input, the list on standard output.
 use host::record::Registers;
-use libc::STDOUT_FILENO;
 
 // There is room for a line of every segment.
 fn print_listing(registers: Registers, memory: &[u64]) {
     let mut text = [0u8; 131136];
     let size = doorways::put_listing(&mut text, registers, memory);
-    io::write_all(STDOUT_FILENO, &text[..size]);
+    streams::print(&text, size);
 }
 
 // What the image itself is refused for comes first, then 1 to 4, then the list.

@@ -2,14 +2,13 @@
 ghost use Rattle.checks.specs.View.{Verdict-within};
 use checks::Verdict;
 use fields::number::number_2;
-use libc::STDOUT_FILENO;
 
 fn print_verdict(verdict: Verdict)
     requires { ⌜ Verdict-within verdict ⌝ }
 {
     let mut text = [0u8; 64];
     let size = checks::line::put_check(&mut text, 0, verdict);
-    io::write_all(STDOUT_FILENO, &text[..size]);
+    streams::print(&text, size);
 }
 
 // What the image itself is refused for comes first, then the check.

@@ -7,7 +7,6 @@ ghost use Rattle.model.specs.Needs.{need-line, needs-lines};
 ghost use Rattle.sizing.specs.View.{as-needs};
 ghost use Rattle.text.specs.Text.{Put};
 use image::load::LoadOutcome;
-use libc::STDOUT_FILENO;
 use sizing::Needs;
 
 // A name with a space after it, and a number, as a line.
@@ -44,7 +43,7 @@ fn put_needs(text: &mut [u8], needs: Needs) -> usize
 fn print_needs(needs: Needs) {
     let mut text = [0u8; 150];
     let size = put_needs(&mut text, needs);
-    io::write_all(STDOUT_FILENO, &text[..size]);
+    streams::print(&text, size);
 }
 
 // The image is read in pieces, of which no word is kept. `More`: it can't be read, as has been said.

@@ -10,7 +10,6 @@ ghost use Rattle.old.specs.View.{as-way, as-answer};
 ghost use Rattle.text.specs.Text.{Put};
 use fields::number::number_8;
 use libc::STDERR_FILENO;
-use libc::STDOUT_FILENO;
 use old::Answer;
 use writing::number::put_number;
 
@@ -83,7 +82,7 @@ fn print_converted(bytes: &[u8], back: bool)
     let mut words = [0u64; 4096];
     let mut text = [0u8; 32768];
     let size = put_converted(&mut text, &mut words[..count], bytes, back);
-    io::write_all(STDOUT_FILENO, &text[..size]);
+    streams::print(&text, size);
 }
 
 // Reads the words; with one byte more than fits there are too many.

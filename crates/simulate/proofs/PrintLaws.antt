@@ -4,8 +4,7 @@ use mathlib.Core.Bool.{false}
 use mathlib.Core.List.{List}
 use Prim.Native.Nat.{ℕ, _*_, _≤_}
 use native.Mathlib.Omega.{arith}
-use lib.ListN.{length, take}
-use lib.Seq.{length-take-le}
+use lib.ListN.{length}
 use Rattle.model.specs.Registers.{Delivery, Machine}
 use Rattle.model.specs.Questions.{start-questions}
 use Rattle.listing.specs.declared.Listed.{Listed}
@@ -24,10 +23,7 @@ module _ {dv : Delivery} (m : Machine) (c s b : ℕ) (t : List ℕ) (x : Listed)
   pub printed-within : x .line .length ≤ length u
   printed-within = omega (arith, w .fits, w .size-same)
 
-  pub printed-size : x .line .length ≡ length (take (x .line .length) u)
-  printed-size = sym (length-take-le (x .line .length) u printed-within)
-
   pub text-keeps-size : (n : ℕ) → n ≡ length t → n ≡ length u
   text-keeps-size n e = e ∙ sym (w .size-same)
 
-pub ruleset prints = (goes-on-passing, goes-on-within, goes-on-few, printed-within, printed-size, text-keeps-size)
+pub ruleset prints = (goes-on-passing, goes-on-within, goes-on-few, printed-within, text-keeps-size)

@@ -4,7 +4,6 @@ ghost use Rattle.model.specs.Questions.{start-questions};
 ghost use Rattle.state.specs.View.{as-machine, as-delivery};
 use chunks::Line;
 use host::record::Registers;
-use libc::STDOUT_FILENO;
 use listing::Listed;
 use state::Core;
 use state::Delivery;
@@ -37,7 +36,7 @@ fn print_listing(delivery: Delivery, core: Core, start: [u16; 24], memory: &mut 
             &mut text,
         );
         let size = x.line.length;
-        if !io::write_all(STDOUT_FILENO, &text[..size]) {
+        if !streams::print(&text, size) {
             return;
         }
         if x.line.is_last {

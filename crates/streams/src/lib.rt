@@ -1,4 +1,4 @@
-// The standard streams of a program: input in pieces, and a refusal as output.
+// The standard streams of a program: input in pieces, and a text or a refusal as output.
 ghost use Prim.Native.Nat.{_≤_};
 ghost use lib.ListN.{length};
 use libc::STDIN_FILENO;
@@ -45,8 +45,15 @@ pub fn read_whole(bytes: &mut [u8]) -> Piece
     x
 }
 
+// Whether all of it was written.
+pub fn print(text: &[u8], size: usize) -> bool
+    requires { ⌜ size ≤ length (now text) ⌝ }
+{
+    io::write_all(STDOUT_FILENO, &text[..size])
+}
+
 pub fn print_refusal(number: u8) {
     let mut text = [0u8; 64];
     let size = endings::put_last_line(&mut text, 0, Reply::Refused(number), 0);
-    io::write_all(STDOUT_FILENO, &text[..size]);
+    print(&text, size);
 }

@@ -34,14 +34,11 @@ print-refusal-requires c κs = search (needs, news)
 enum-known-progress-2 : tie.Need-enum-known-progress-2
 enum-known-progress-2 c = search (needs, news)
 
-array-share-prefix-buffer : tie.Need-array-share-prefix-buffer
-array-share-prefix-buffer c = search (needs, news)
+slice-aggregate-print : tie.Need-slice-aggregate-print
+slice-aggregate-print c = search (needs, news)
 
-slice-aggregate-write-all : tie.Need-slice-aggregate-write-all
-slice-aggregate-write-all c = search (needs, news)
-
-write-all-requires : tie.Need-write-all-requires
-write-all-requires c κs = search (needs, news)
+print-requires : tie.Need-print-requires
+print-requires c κs = search (needs, news)
 
 returns : tie.Need-returns
 returns c = search (needs, news)
@@ -69,9 +66,8 @@ main-spec =
     enum-known-progress
     print-refusal-requires
     enum-known-progress-2
-    array-share-prefix-buffer
-    slice-aggregate-write-all
-    write-all-requires
+    slice-aggregate-print
+    print-requires
     returns
     returns-2
     returns-3

@@ -1,6 +1,4 @@
 -- `print_listing` meets its contract. Assumes nothing.
-use mathlib.Core.Path.{sym}
-use lib.Seq.{length-take-le}
 use borrow.Author.Needs.{needs}
 use Rattle.doors.proofs.print_listing.Statement.{statement}
 use Rattle.doors.proofs.print_listing.Tie as tie
@@ -11,14 +9,11 @@ slice-aggregate-put-listing c = search needs
 put-listing-requires : tie.Need-put-listing-requires
 put-listing-requires c κs = search needs
 
-array-share-prefix-text : tie.Need-array-share-prefix-text
-array-share-prefix-text c = search (needs, c .before .put-listing .ensures 0)
+slice-aggregate-print : tie.Need-slice-aggregate-print
+slice-aggregate-print c = search needs
 
-slice-aggregate-write-all : tie.Need-slice-aggregate-write-all
-slice-aggregate-write-all c = sym (length-take-le _ _ (array-share-prefix-text (c .before)))
-
-write-all-requires : tie.Need-write-all-requires
-write-all-requires c κs = search needs
+print-requires : tie.Need-print-requires
+print-requires c κs = search (needs, c .before .before .put-listing .ensures 0)
 
 returns : tie.Need-returns
 returns c = search needs
@@ -29,7 +24,6 @@ print-listing-spec =
     (tie.spec
     slice-aggregate-put-listing
     put-listing-requires
-    array-share-prefix-text
-    slice-aggregate-write-all
-    write-all-requires
+    slice-aggregate-print
+    print-requires
     returns)

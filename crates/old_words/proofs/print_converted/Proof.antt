@@ -32,14 +32,11 @@ put-converted-requires c κs =
     let within = array-borrow-prefix-words (c .before) in
     (front-whole _ _ within (search needs), front-at-most _ _ within (search needs), search needs)
 
-array-share-prefix-text : tie.Need-array-share-prefix-text
-array-share-prefix-text c = search needs
+slice-aggregate-print : tie.Need-slice-aggregate-print
+slice-aggregate-print c = search needs
 
-slice-aggregate-write-all-2 : tie.Need-slice-aggregate-write-all-2
-slice-aggregate-write-all-2 c = sym (length-take-le _ _ (array-share-prefix-text (c .before)))
-
-write-all-requires-2 : tie.Need-write-all-requires-2
-write-all-requires-2 c κs = search needs
+print-requires : tie.Need-print-requires
+print-requires c κs = search needs
 
 returns-2 : tie.Need-returns-2
 returns-2 c = search needs
@@ -56,7 +53,6 @@ print-converted-spec =
     array-borrow-prefix-words
     slice-aggregate-put-converted-2
     put-converted-requires
-    array-share-prefix-text
-    slice-aggregate-write-all-2
-    write-all-requires-2
+    slice-aggregate-print
+    print-requires
     returns-2)

@@ -29,14 +29,11 @@ slice-aggregate-list c = search (needs, prints)
 list-requires : tie.Need-list-requires Inv-loop μ-loop
 list-requires c κs = search (needs, prints)
 
-array-share-prefix-text : tie.Need-array-share-prefix-text Inv-loop μ-loop
-array-share-prefix-text c = search (needs, prints)
+slice-aggregate-print : tie.Need-slice-aggregate-print Inv-loop μ-loop
+slice-aggregate-print c = search (needs, prints)
 
-slice-aggregate-write-all : tie.Need-slice-aggregate-write-all Inv-loop μ-loop
-slice-aggregate-write-all c = search (needs, prints)
-
-write-all-requires : tie.Need-write-all-requires Inv-loop μ-loop
-write-all-requires c κs = search (needs, prints)
+print-requires : tie.Need-print-requires Inv-loop μ-loop
+print-requires c κs = search (needs, prints)
 
 same-length : tie.Need-same-length Inv-loop μ-loop
 same-length c = search (needs, prints)
@@ -75,9 +72,8 @@ print-listing-spec =
     loop-holds
     slice-aggregate-list
     list-requires
-    array-share-prefix-text
-    slice-aggregate-write-all
-    write-all-requires
+    slice-aggregate-print
+    print-requires
     same-length
     returns
     same-length-2
