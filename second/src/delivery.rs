@@ -1029,47 +1029,56 @@ fn restoring_in_runs(cases: &mut Cases) {
     cases.add_all(course, End::Spent);
 }
 
+/// How a case is tried, here and where others are made.
+#[cfg(test)]
+impl Case {
+    pub fn check_run(&self) {
+        let Case { run: case, registers: after, memory: memory_after } = self;
+        let Image { mut registers, mut memory, budget } = case.machine.clone();
+        assert_eq!(crate::run(&mut registers, &mut memory, budget), case.reply(), "{}", case.name);
+        assert_eq!(registers, *after, "{}", case.name);
+        assert!(memory == *memory_after, "{}", case.name);
+    }
+
+    pub fn check_steps(&self) {
+        let Case { run: case, registers: after, memory: memory_after } = self;
+        let Image { mut registers, mut memory, .. } = case.machine.clone();
+        for (number, reply) in case.step_replies().into_iter().enumerate() {
+            assert_eq!(crate::step(&mut registers, &mut memory), reply, "{}, step {}", case.name, number + 1);
+            if let Some((ipr, _)) = case.steps.get(number) {
+                assert_eq!(registers.ipr, *ipr, "{}, step {}", case.name, number + 1);
+            }
+        }
+        assert_eq!(registers, *after, "{}", case.name);
+        assert!(memory == *memory_after, "{}", case.name);
+    }
+
+    pub fn listing(&self) -> String {
+        let mut text = Vec::new();
+        assert!(crate::listing::list_run(self.run.machine.clone(), &mut text).is_ok());
+        String::from_utf8_lossy(&text).into_owned()
+    }
+}
+
 #[cfg(test)]
 mod tests {
     use super::*;
-    use crate::listing::list_run;
-    use crate::{run, step, step_and_fault, Reply};
+    use crate::{step, step_and_fault, Reply};
 
     #[test]
     fn replies_of_runs() {
-        for Case { run: case, registers: after, memory: memory_after } in cases() {
-            let Image { mut registers, mut memory, budget } = case.machine.clone();
-            assert_eq!(run(&mut registers, &mut memory, budget), case.reply(), "{}", case.name);
-            assert_eq!(registers, after, "{}", case.name);
-            assert!(memory == memory_after, "{}", case.name);
-        }
+        cases().iter().for_each(Case::check_run);
     }
 
     #[test]
     fn replies_of_steps() {
-        for Case { run: case, registers: after, memory: memory_after } in cases() {
-            let Image { mut registers, mut memory, .. } = case.machine.clone();
-            for (number, reply) in case.step_replies().into_iter().enumerate() {
-                assert_eq!(step(&mut registers, &mut memory), reply, "{}, step {}", case.name, number + 1);
-                if let Some((ipr, _)) = case.steps.get(number) {
-                    assert_eq!(registers.ipr, *ipr, "{}, step {}", case.name, number + 1);
-                }
-            }
-            assert_eq!(registers, after, "{}", case.name);
-            assert!(memory == memory_after, "{}", case.name);
-        }
-    }
-
-    fn listing(case: &Case) -> String {
-        let mut text = Vec::new();
-        assert!(list_run(case.run.machine.clone(), &mut text).is_ok());
-        String::from_utf8_lossy(&text).into_owned()
+        cases().iter().for_each(Case::check_steps);
     }
 
     #[test]
     fn listings() {
         for case in cases().into_iter().filter(|case| !matches!(case.run.end, End::Refused(_))) {
-            assert_eq!(listing(&case), case.run.text(), "{}", case.run.name);
+            assert_eq!(case.listing(), case.run.text(), "{}", case.run.name);
         }
     }
 
@@ -1097,7 +1106,7 @@ mod tests {
             ("52 after 3 pointer words, switch off", "fault 52 0 6 0 1 0\n"),
         ];
         for (name, text) in texts {
-            assert_eq!(listing(&named(name)), text, "{name}");
+            assert_eq!(named(name).listing(), text, "{name}");
         }
     }
 

@@ -609,41 +609,23 @@ fn handlers(cases: &mut Cases) {
 #[cfg(test)]
 mod tests {
     use super::*;
-    use crate::listing::list_run;
     use crate::machine::{fetch, form_address};
-    use crate::{run, step};
+    use crate::run;
 
     #[test]
     fn runs() {
-        for Case { run: case, registers: after, memory: memory_after } in cases() {
-            let Image { mut registers, mut memory, budget } = case.machine.clone();
-            assert_eq!(run(&mut registers, &mut memory, budget), case.reply(), "{}", case.name);
-            assert_eq!(registers, after, "{}", case.name);
-            assert!(memory == memory_after, "{}", case.name);
-        }
+        cases().iter().for_each(Case::check_run);
     }
 
     #[test]
     fn steps() {
-        for Case { run: case, registers: after, memory: memory_after } in cases() {
-            let Image { mut registers, mut memory, .. } = case.machine.clone();
-            for (number, reply) in case.step_replies().into_iter().enumerate() {
-                assert_eq!(step(&mut registers, &mut memory), reply, "{}, step {}", case.name, number + 1);
-                if let Some((ipr, _)) = case.steps.get(number) {
-                    assert_eq!(registers.ipr, *ipr, "{}, step {}", case.name, number + 1);
-                }
-            }
-            assert_eq!(registers, after, "{}", case.name);
-            assert!(memory == memory_after, "{}", case.name);
-        }
+        cases().iter().for_each(Case::check_steps);
     }
 
     #[test]
     fn listings() {
-        for Case { run: case, .. } in cases() {
-            let mut text = Vec::new();
-            assert!(list_run(case.machine.clone(), &mut text).is_ok());
-            assert_eq!(String::from_utf8_lossy(&text), case.text(), "{}", case.name);
+        for case in cases() {
+            assert_eq!(case.listing(), case.run.text(), "{}", case.run.name);
         }
     }
 

@@ -54,19 +54,7 @@ fn steps(
     ensures { λ x. ⌜ Steps-as budget count (as-machine core (now (prs .entry)) (now (memory .entry))) (now (trace .entry)) x (as-machine (x .core) (now (prs .exit)) (now (memory .exit))) (now (trace .exit)) ⌝ }
 {
     let start = place_in(trace.len(), count);
-    plain::run(
-        core.a,
-        core.dbr.address,
-        core.dbr.length,
-        core.ipr.ring,
-        core.ipr.segment.0,
-        core.ipr.word.0,
-        prs,
-        memory,
-        budget - count,
-        &mut trace[start..],
-        false,
-    )
+    plain::run(core, prs, memory, budget - count, &mut trace[start..])
 }
 
 // The pointer words of the step at which plain steps stopped: once more, as a single step, it stops there again.
@@ -74,20 +62,7 @@ fn words_of(core: Core, prs: &mut [u16; 24], memory: &mut [u64]) -> u64
     requires { ⌜ (start-questions no-delivery (as-machine core (now prs) (now memory)) ≡ 0) × At-a-stop (as-machine core (now prs) (now memory)) ⌝ }
     ensures { λ r. ⌜ (r ≡ pointer-words (as-machine core (now (prs .entry)) (now (memory .entry)))) × (r ≤ 64) × (as-machine core (now (prs .exit)) (now (memory .exit)) ≡ as-machine core (now (prs .entry)) (now (memory .entry))) ⌝ }
 {
-    let mut none: [u64; 0] = [];
-    let x = plain::run(
-        core.a,
-        core.dbr.address,
-        core.dbr.length,
-        core.ipr.ring,
-        core.ipr.segment.0,
-        core.ipr.word.0,
-        prs,
-        memory,
-        1,
-        &mut none,
-        true,
-    );
+    let x = plain::step(core, prs, memory);
     x.pointers
 }
 

@@ -26,8 +26,8 @@ struct Answered {
     pub ipr: Pointer,
 }
 
-// A run, or a single step. A step is a plain one, which the compiler merges into the entry; only where that stops is it asked again,
-// as a run of one step that may deliver its fault. Nothing has changed then.
+// A run, or a single step. A step is a plain one; only where that stops is it asked again, as a run of one step that may deliver its
+// fault. Nothing has changed then.
 fn run_core(
     prs: &mut [u16; 24],
     memory: &mut [u64],
@@ -38,55 +38,41 @@ fn run_core(
 ) -> answers::Answered
     ensures { λ x. ⌜ Core-says (as-delivery delivery) single budget core (now (prs .entry)) (now (memory .entry)) x (now (prs .exit)) (now (memory .exit)) ⌝ }
 {
-    let is_step = single & (budget == 1);
     let mut none: [u64; 0] = [];
-    let mut x = if is_step & host::start::is_delivery(delivery) {
-        plain::run(
-            core.a,
-            core.dbr.address,
-            core.dbr.length,
-            core.ipr.ring,
-            core.ipr.segment.0,
-            core.ipr.word.0,
-            prs,
-            memory,
-            1,
-            &mut none,
-            true,
-        )
-    } else {
-        machine::run(
-            core.a,
-            core.dbr.address,
-            core.dbr.length,
-            core.ipr.ring,
-            core.ipr.segment.0,
-            core.ipr.word.0,
-            prs,
-            memory,
-            budget,
-            &mut none,
-            delivery,
-            single,
-        )
-    };
-    if is_step & (x.kind == 3) {
-        x = machine::run(
-            x.core.a,
-            x.core.dbr.address,
-            x.core.dbr.length,
-            x.core.ipr.ring,
-            x.core.ipr.segment.0,
-            x.core.ipr.word.0,
-            prs,
-            memory,
-            1,
-            &mut none,
-            delivery,
-            true,
-        );
+    if single & (budget == 1) & host::start::is_delivery(delivery) {
+        let mut x = plain::step(core, prs, memory);
+        if x.kind == 3 {
+            x = machine::run(
+                x.core.a,
+                x.core.dbr.address,
+                x.core.dbr.length,
+                x.core.ipr.ring,
+                x.core.ipr.segment.0,
+                x.core.ipr.word.0,
+                prs,
+                memory,
+                1,
+                &mut none,
+                delivery,
+                true,
+            );
+        }
+        return x;
     }
-    x
+    machine::run(
+        core.a,
+        core.dbr.address,
+        core.dbr.length,
+        core.ipr.ring,
+        core.ipr.segment.0,
+        core.ipr.word.0,
+        prs,
+        memory,
+        budget,
+        &mut none,
+        delivery,
+        single,
+    )
 }
 
 // A run on the parts of a record, as one or as a single step: its PRs are lent, the rest comes and goes by value.

@@ -5,10 +5,10 @@ use mathlib.Core.List.{List, [], _∷_, _++_, append-nil}
 use Prim.Native.Nat.{ℕ, zero, suc, _+_, _-_, _≤_}
 use native.Mathlib.Nat.{zero-add}
 use native.Mathlib.Omega.{arith}
-use lib.ListN.{length, take}
+use lib.ListN.{take}
 use Rattle.model.specs.Registers.{Delivery, no-delivery, Machine}
 use Rattle.model.specs.Answers.{Numbers, numbers, reply-numbers}
-use Rattle.model.specs.Questions.{ask, memory-fits, delivery-in-range, start-questions}
+use Rattle.model.specs.Questions.{delivery-in-range, start-questions}
 use Rattle.model.specs.Program.{Outcome, faults, completes, halts}
 use Rattle.model.specs.Step.{pointer-words}
 use Rattle.model.specs.Deliver.{step-with}
@@ -20,7 +20,6 @@ use Rattle.model.proofs.TickLaws.{fault-count-goes}
 use Rattle.state.specs.View.{as-machine}
 use Rattle.state.specs.declared.Core.{Core}
 use Rattle.host.specs.Record.{In-record}
-use Rattle.host.proofs.RecordLaws.{delivery-answer}
 use Rattle.dispatch.specs.Plain.{plain-step}
 use Rattle.run.specs.Run.{run-by, trace-by, last-by, noted-steps}
 use Rattle.answers.specs.Answer.{as-numbers}
@@ -165,18 +164,3 @@ answers-from v single b c d prs memory prs-then memory-then trace x prs-now memo
       traced = λ z room. w .traced (ap (start-questions v) e ∙ z) room ∙ ap (trace-from v b) e;
       pointers-same = w .pointers-same ∙ ap (pointers-read v single b) e;
     }
-
--- WITHOUT A DELIVERY IN RANGE there is no fault
-pub unfit-refused : (v : Delivery) (single : Bool) (b : ℕ) (c : Core) (prs memory trace : List ℕ) (x : Answered) (prs-now memory-now trace-now : List ℕ) →
-    Answered-as v single b c prs memory trace x prs-now memory-now trace-now → delivery-in-range v ≡ false → x .kind ≡ 3 → ⊥
-unfolding reply-numbers numbers ran ask
-unfit-refused v single b c prs memory trace x prs-now memory-now trace-now w e k = by-fit (memory-fits (length memory)) refl
-  where
-    refused : (n : ℕ) → start-questions v (as-machine c prs memory) ≡ suc n → ⊥
-    refused n f =
-        let kinds = ap (λ (q : Numbers). q .kind) (w .numbers-same ∙ ap (λ (y : Run.Ran). reply-numbers (y .reply)) (run-refused v b n (as-machine c prs memory) f)) in
-        omega (arith, k, kinds)
-
-    by-fit : (z : Bool) → memory-fits (length memory) ≡ z → ⊥
-    by-fit true f = refused 1 (delivery-answer v (as-machine c prs memory) e ∙ ap (λ z. ask z 1 2) f)
-    by-fit false f = refused 0 (delivery-answer v (as-machine c prs memory) e ∙ ap (λ z. ask z 1 2) f)

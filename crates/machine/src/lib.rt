@@ -24,19 +24,7 @@ fn ask(delivery: Delivery, core: Core, prs: &mut [u16; 24], memory: &mut [u64]) 
         return host::start::delivery_refused(memory);
     }
     let mut none: [u64; 0] = [];
-    let x = plain::run(
-        core.a,
-        core.dbr.address,
-        core.dbr.length,
-        core.ipr.ring,
-        core.ipr.segment.0,
-        core.ipr.word.0,
-        prs,
-        memory,
-        0,
-        &mut none,
-        false,
-    );
+    let x = plain::run(core, prs, memory, 0, &mut none);
     if x.kind == 0 {
         return x.number as u8;
     }

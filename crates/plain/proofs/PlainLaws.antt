@@ -4,7 +4,7 @@ use mathlib.Core.Bool.{Bool, true, false, cond}
 use mathlib.Core.List.{List, [], _∷_}
 use Prim.Native.Nat.{ℕ, zero, suc, _+_, _*_, _^_, _≤_, _<_}
 use native.Mathlib.Omega.{arith}
-use lib.ListN.{take}
+use lib.ListN.{length, take}
 use Rattle.model.specs.Registers.{no-delivery, Machine}
 use Rattle.model.specs.Answers.{Numbers, reply-numbers}
 use Rattle.model.specs.Questions.{start-questions}
@@ -116,3 +116,11 @@ module _ (single : Bool) (b : ℕ) (c : Core) (prs memory trace : List ℕ) (n :
         core-fits = λ _. passing-in-record (x .core) prs-now memory-now again;
         trace-size = t .size-same;
       }
+
+-- a step keeps no trace
+pub without-trace : (c : Core) (prs memory : List ℕ) (x : Answered) (prs-now memory-now trace-now : List ℕ) → Plain-as true 1 c prs memory [] x prs-now memory-now trace-now → Plain-as true 1 c prs memory [] x prs-now memory-now []
+without-trace c prs memory x prs-now memory-now trace-now w = by-trace trace-now (w .trace-size) w
+  where
+    by-trace : (t : List ℕ) → length t ≡ 0 → Plain-as true 1 c prs memory [] x prs-now memory-now t → Plain-as true 1 c prs memory [] x prs-now memory-now []
+    by-trace [] e v = v
+    by-trace (n ∷ t) e v = absurd (omega (arith, e))

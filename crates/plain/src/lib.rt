@@ -1,6 +1,7 @@
 // 1 to 4, then plain steps. Everything below is merged into this one function, the loop of steps with it; what is seldom done, a
 // delivered fault and RCU, stays outside it, so that it costs the loop nothing.
-ghost use mathlib.Core.Bool.{cond};
+ghost use mathlib.Core.Bool.{cond, true, false};
+ghost use mathlib.Core.List.{[]};
 ghost use mathlib.Core.Path.{_≡_};
 ghost use Prim.Native.Nat.{_+_, _^_, _<_};
 ghost use Rattle.plain.specs.Plain.{core-of, Plain-as};
@@ -24,8 +25,9 @@ pub fn counted(single: bool, total: u64, last: u64) -> u64
     total
 }
 
-// A, DBR and IPR come one by one, the PRs where the host has them. `single`: pointer words as a single step has them.
-pub fn run(
+// A, DBR and IPR come one by one, since a record would go through memory at each call, and the PRs where the host has them. `single`:
+// pointer words as a single step has them. It has two callers, so that the compiler leaves it out of either.
+fn run_numbers(
     a: u64,
     address: u64,
     length: u64,
@@ -57,4 +59,47 @@ pub fn run(
     let reply = y.reply;
     let after = y.core;
     answer_of(reply, after, counted(single, y.total, y.last))
+}
+
+pub fn run(
+    core: Core,
+    prs: &mut [u16; 24],
+    memory: &mut [u64],
+    budget: u32,
+    trace: &mut [u64],
+) -> Answered
+    ensures { λ x. ⌜ Plain-as false budget core (now (prs .entry)) (now (memory .entry)) (now (trace .entry)) x (now (prs .exit)) (now (memory .exit)) (now (trace .exit)) ⌝ }
+{
+    run_numbers(
+        core.a,
+        core.dbr.address,
+        core.dbr.length,
+        core.ipr.ring,
+        core.ipr.segment.0,
+        core.ipr.word.0,
+        prs,
+        memory,
+        budget,
+        trace,
+        false,
+    )
+}
+
+pub fn step(core: Core, prs: &mut [u16; 24], memory: &mut [u64]) -> Answered
+    ensures { λ x. ⌜ Plain-as true 1 core (now (prs .entry)) (now (memory .entry)) [] x (now (prs .exit)) (now (memory .exit)) [] ⌝ }
+{
+    let mut none: [u64; 0] = [];
+    run_numbers(
+        core.a,
+        core.dbr.address,
+        core.dbr.length,
+        core.ipr.ring,
+        core.ipr.segment.0,
+        core.ipr.word.0,
+        prs,
+        memory,
+        1,
+        &mut none,
+        true,
+    )
 }

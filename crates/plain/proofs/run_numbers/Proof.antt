@@ -1,9 +1,9 @@
--- `run` meets its contract. Assumes nothing.
+-- `run_numbers` meets its contract. Assumes nothing.
 use mathlib.Core.Path.{sym, _∙_}
 use borrow.Author.Needs.{needs}
 use Rattle.plain.proofs.PlainLaws.{sum-fits, refused-plainly, run-plainly}
-use Rattle.plain.proofs.run.Statement.{statement}
-use Rattle.plain.proofs.run.Tie as tie
+use Rattle.plain.proofs.run_numbers.Statement.{statement}
+use Rattle.plain.proofs.run_numbers.Tie as tie
 
 start-answer-requires : tie.Need-start-answer-requires
 start-answer-requires c κs = search needs
@@ -35,8 +35,8 @@ same-length-3 c = search needs
 returns-2 : tie.Need-returns-2
 returns-2 c = run-plainly _ _ _ _ _ _ _ (c .before .before .before .before .before .before .before .before .before .before .before .before .start-answer .ensures) _ (c .before .before .before .before .before .before .before .before .before .before .before .if1 .left) _ _ _ _ (c .before .before .before .before .before .before .before .run .ensures .0) (c .before .before .before .before .before .before .before .run .ensures .1) (c .before .before .before .before .before .before .before .run .ensures .2) _ (c .before .counted .ensures) (c .answer-of2 .ensures)
 
-pub run-spec : {M : Type 1} → statement M
-run-spec =
+pub run-numbers-spec : {M : Type 1} → statement M
+run-numbers-spec =
     tie.close
     (tie.spec
     start-answer-requires
