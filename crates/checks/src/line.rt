@@ -7,7 +7,6 @@ ghost use Rattle.words.specs.View.{as-pointer, Pointer-within};
 ghost use Rattle.text.specs.Text.{Put};
 ghost use Rattle.checks.specs.View.{as-check, Verdict-within};
 use crate::Verdict;
-use parts::put_bytes;
 use parts::put_digit;
 use parts::put_named;
 use parts::put_short;
@@ -18,8 +17,7 @@ fn put_fault(text: &mut [u8], at: usize, n: u8, t: Pointer) -> usize
     requires { ⌜ (at + 40 ≤ length (now text)) × Pointer-within t ⌝ }
     ensures { λ r. ⌜ Put 40 at (check-line (fault n (as-pointer t))) (now (text .entry)) (now (text .exit)) r ⌝ }
 {
-    let at_number = put_bytes(text, at, b"fault ");
-    let at_ring = put_short(text, at_number, n as u64, 32);
+    let at_ring = put_named(text, at, b"fault ", n as u32, 32);
     let at_segment = put_digit(text, at_ring, t.ring, 32);
     let at_word = put_short(text, at_segment, t.segment.0, 32);
     put_short(text, at_word, t.word.0, 10)

@@ -1,5 +1,5 @@
-// 1 to 4, then plain steps. Everything below is merged into this one function, the loop of steps with it; what is seldom done, a
-// delivered fault and RCU, stays outside it, so that it costs the loop nothing.
+// 1 to 4, then plain steps. All that they do is merged into `run_numbers`, the loop of steps with it; what is seldom done, a delivered
+// fault and RCU, stays outside it, so that it costs the loop nothing.
 ghost use mathlib.Core.Bool.{cond, true, false};
 ghost use mathlib.Core.List.{[]};
 ghost use mathlib.Core.Path.{_≡_};
@@ -61,6 +61,7 @@ fn run_numbers(
     answer_of(reply, after, counted(single, y.total, y.last))
 }
 
+// Pointer words as a run counts them, and its trace.
 pub fn run(
     core: Core,
     prs: &mut [u16; 24],
@@ -85,6 +86,7 @@ pub fn run(
     )
 }
 
+// A single step, with its pointer words however it ends.
 pub fn step(core: Core, prs: &mut [u16; 24], memory: &mut [u64]) -> Answered
     ensures { λ x. ⌜ Plain-as true 1 core (now (prs .entry)) (now (memory .entry)) [] x (now (prs .exit)) (now (memory .exit)) [] ⌝ }
 {
