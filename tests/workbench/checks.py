@@ -1,7 +1,10 @@
 """What the workbench's tests share: answers checked and counted, the command and the proved programs."""
+import errno
+import shutil
 import signal
 import subprocess
 import sys
+import tempfile
 from pathlib import Path
 from typing import Optional, Sequence
 
@@ -19,9 +22,37 @@ def counted() -> int:
     return _count
 
 
+def blame() -> None:
+    """Says where a test that fails has met a full disk."""
+    for folder in (TOP, tempfile.gettempdir()):
+        left = shutil.disk_usage(folder).free >> 20
+        if left < 64:
+            print(f"tests/workbench: the disk of {folder} has only {left} MB left: that is the machine's fault, not the project's", file=sys.stderr)
+
+
 def fail(what: str) -> None:
     print(f"tests/workbench: {what}", file=sys.stderr)
+    blame()
     sys.exit(1)
+
+
+def needs(*tools: str) -> None:
+    for tool in tools:
+        if not shutil.which(tool):
+            print(
+                f"tests/workbench: this machine has no {tool}, and nothing was tested: that is the machine's fault, not the project's",
+                file=sys.stderr,
+            )
+            sys.exit(1)
+
+
+def end_by(kind, error, trace) -> None:
+    sys.__excepthook__(kind, error, trace)
+    if isinstance(error, OSError) and error.errno == errno.ENOSPC:
+        blame()
+
+
+sys.excepthook = end_by
 
 
 def check(holds: bool, what: str) -> None:

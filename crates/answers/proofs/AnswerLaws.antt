@@ -8,9 +8,9 @@ use Rattle.model.specs.Run as Run
 use Rattle.words.specs.View.{Pointer-within}
 use Rattle.words.specs.declared.pointer.Pointer.{Pointer}
 use Rattle.state.specs.declared.Core.{Core}
-use Rattle.run.specs.Run.{as-reply, Reply-within, completed}
-use Rattle.run.specs.declared.Reply.{Reply}
-use Rattle.run.specs.declared.Reply.the-variants as Reply
+use Rattle.state.specs.Reply.{as-reply, Reply-within, completed}
+use Rattle.state.specs.declared.reply.Reply.{Reply}
+use Rattle.state.specs.declared.reply.Reply.the-variants as Reply
 use Rattle.answers.specs.Answer.{Answer-fits, Answers-with, reply-in, Replies}
 use Rattle.answers.specs.declared.Answered.{Answered}
 

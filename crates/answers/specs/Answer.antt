@@ -7,8 +7,8 @@ use Rattle.model.specs.Answers.{Numbers, reply-numbers}
 use Rattle.model.specs.Run as Run
 use Rattle.words.specs.View.{as-pointer, Pointer-within}
 use Rattle.state.specs.declared.Core.{Core}
-use Rattle.run.specs.Run.{as-reply, Reply-within}
-use Rattle.run.specs.declared.Reply.{Reply}
+use Rattle.state.specs.Reply.{as-reply, Reply-within}
+use Rattle.state.specs.declared.reply.Reply.{Reply}
 use Rattle.answers.specs.declared.Answered.{Answered}
 
 abbrev pub as-numbers : Answered → Numbers

@@ -1,9 +1,9 @@
 // A reply as numbers, and back.
 ghost use mathlib.Core.Path.{_≡_};
-ghost use Rattle.run.specs.Run.{Reply-within};
+ghost use Rattle.state.specs.Reply.{Reply-within};
 ghost use Rattle.answers.specs.Answer.{Answers-with, Answer-fits, Replies};
-use run::Reply;
 use state::Core;
+use state::reply::Reply;
 use words::pointer::Pointer;
 use words::pointer::SegmentNumber;
 use words::pointer::WordNumber;

@@ -13,7 +13,7 @@ ghost use Rattle.brackets.specs.Printed.{Printed};
 use fields::number::number_1;
 use fields::number::number_2;
 use host::record::Registers;
-use run::Reply;
+use state::reply::Reply;
 
 // Two bytes of a row as one number, the first the lower.
 fn pair_at(bytes: &[u8], at: usize) -> u16

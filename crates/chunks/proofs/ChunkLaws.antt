@@ -24,11 +24,12 @@ use Rattle.model.proofs.CountedLaws.{total-within}
 use Rattle.model.proofs.ListingLaws.{step-lines-append}
 use Rattle.words.specs.View.{as-pointer, Pointer-within, Decoded-pointer}
 use Rattle.words.specs.declared.pointer.Pointer as Code
-use Rattle.run.specs.declared.Reply.{Reply}
-use Rattle.run.specs.declared.Reply.the-variants.{Refused, Spent, Halted, Fault}
-use Rattle.run.specs.Run.{as-reply, Reply-within, completed, step-in, noted-steps}
+use Rattle.run.specs.Run.{step-in, noted-steps}
 use Rattle.state.specs.View.{as-machine}
 use Rattle.state.specs.declared.Core.{Core}
+use Rattle.state.specs.declared.reply.Reply.{Reply}
+use Rattle.state.specs.declared.reply.Reply.the-variants.{Refused, Spent, Halted, Fault}
+use Rattle.state.specs.Reply.{as-reply, Reply-within, completed}
 use Rattle.answers.specs.declared.Answered.{Answered}
 use Rattle.answers.specs.Answer.{reply-in, Replies}
 use Rattle.machine.specs.Answered.{Answered-as}

@@ -9,9 +9,9 @@ use Rattle.model.specs.Questions.{start-questions}
 use Rattle.model.specs.Run.{ran, refused, halted, fault, Traced, run-from, trace-from, total-of}
 use Rattle.model.specs.Listing.{step-lines, last-line}
 use Rattle.words.specs.View.{as-pointer}
-use Rattle.run.specs.declared.Reply.{Reply}
-use Rattle.run.specs.declared.Reply.the-variants.{Refused, Spent, Halted, Fault}
-use Rattle.run.specs.Run.{as-reply, Reply-within, completed}
+use Rattle.state.specs.declared.reply.Reply.{Reply}
+use Rattle.state.specs.declared.reply.Reply.the-variants.{Refused, Spent, Halted, Fault}
+use Rattle.state.specs.Reply.{as-reply, Reply-within, completed}
 use Rattle.chunks.specs.declared.Line.{Line}
 use Rattle.chunks.specs.declared.Chunk.{Chunk}
 use Rattle.text.specs.Text.{Put}

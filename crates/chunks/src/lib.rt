@@ -5,14 +5,15 @@ ghost use lib.ListN.{length, take};
 ghost use Rattle.model.specs.Questions.{start-questions};
 ghost use Rattle.model.specs.Listing.{step-line, step-lines};
 ghost use Rattle.state.specs.View.{as-machine, as-delivery};
-ghost use Rattle.run.specs.Run.{Reply-within, completed, step-in, noted-steps};
+ghost use Rattle.state.specs.Reply.{Reply-within, completed};
+ghost use Rattle.run.specs.Run.{step-in, noted-steps};
 ghost use Rattle.text.specs.Text.{Put};
 ghost use Rattle.lines.specs.Kept.{Kept};
 ghost use Rattle.chunks.specs.Chunk.{Few, ends-run, ending, Chunk-written, Chunk-listed};
 use lines::Number;
-use run::Reply;
 use state::Core;
 use state::Delivery;
+use state::reply::Reply;
 
 // Where lines end, whether the last of them ends the listing, and the pointer words of the run so far.
 pub struct Line {

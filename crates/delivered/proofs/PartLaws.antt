@@ -19,10 +19,11 @@ use Rattle.words.specs.View.{as-pointer, Pointer-within}
 use Rattle.words.specs.declared.pointer.Pointer.{Pointer}
 use Rattle.state.specs.declared.Core.{Core}
 use Rattle.state.specs.declared.End.the-variants.{Halted}
+use Rattle.state.specs.Reply.{as-reply, Reply-within, completed}
+use Rattle.state.specs.declared.reply.Reply.{Reply}
+use Rattle.state.specs.declared.reply.Reply.the-variants as Reply
 use Rattle.dispatch.specs.Plain.{plain-step}
-use Rattle.run.specs.Run.{run-by, trace-by, last-by, as-reply, Reply-within, completed, step-in, noted-steps, On-the-way, At-the-end}
-use Rattle.run.specs.declared.Reply.{Reply}
-use Rattle.run.specs.declared.Reply.the-variants as Reply
+use Rattle.run.specs.Run.{run-by, trace-by, last-by, step-in, noted-steps, On-the-way, At-the-end}
 use Rattle.run.proofs.RunLaws.{way-joins, way-ends, way-spent}
 use Rattle.answers.specs.Answer.{reply-in, Replies, Answer-fits}
 use Rattle.answers.specs.declared.Answered.{Answered}

@@ -9,9 +9,10 @@ use Rattle.model.specs.Registers.{Delivery, Machine}
 use Rattle.model.specs.Questions.{start-questions}
 use Rattle.model.specs.Deliver.{step-with}
 use Rattle.state.specs.declared.Core.{Core}
-use Rattle.run.specs.Run.{run-by, as-reply, Reply-within, completed, Ran-as, Traced, Counted, On-the-way, At-the-end}
+use Rattle.state.specs.Reply.{as-reply, Reply-within, completed}
+use Rattle.state.specs.declared.reply.Reply.the-variants as Reply
+use Rattle.run.specs.Run.{run-by, Ran-as, Traced, Counted, On-the-way, At-the-end}
 use Rattle.run.specs.declared.Ran.{Ran}
-use Rattle.run.specs.declared.Reply.the-variants as Reply
 use Rattle.run.proofs.RunLaws.{way-starts, way-joins, way-ends, answers}
 use Rattle.delivered.specs.Parts.{Part-as}
 use Rattle.delivered.specs.declared.PartEnd.{PartEnd}

@@ -24,12 +24,12 @@ use Rattle.state.specs.declared.Core.{Core}
 use Rattle.state.specs.declared.End.{End}
 use Rattle.state.specs.declared.End.the-variants.{Completed, Halted, Faulted}
 use Rattle.state.proofs.PassingLaws.{ipr-passing}
+use Rattle.state.specs.declared.reply.Reply.the-variants as Reply
 use Rattle.dispatch.specs.Plain.{plain-step, stopped}
 use Rattle.dispatch.proofs.PlainLaws.{plain-stops}
 use Rattle.settle.specs.Settles.{End-within, Settles}
 use Rattle.restore.specs.declared.Settled.{Settled}
 use Rattle.run.specs.Run.{last-by, Noted, On-the-way}
-use Rattle.run.specs.declared.Reply.the-variants as Reply
 use Rattle.run.proofs.RunLaws.{run-faults, trace-faults, last-faults, way-starts, way-faults, way-halts, way-goes-on}
 use Rattle.answers.specs.declared.Answered.{Answered}
 use Rattle.plain.specs.Plain.{Plain-as}

@@ -12,7 +12,8 @@ use Rattle.model.specs.Program.{faults}
 use Rattle.model.specs.Deliver.{step-with}
 use Rattle.model.specs.Run as Run
 use Rattle.dispatch.specs.Plain.{plain-step}
-use Rattle.run.specs.Run.{run-by, trace-by, as-reply, Reply-within, completed, noted-steps, On-the-way, At-the-end}
+use Rattle.run.specs.Run.{run-by, trace-by, noted-steps, On-the-way, At-the-end}
+use Rattle.state.specs.Reply.{as-reply, Reply-within, completed}
 use Rattle.answers.specs.Answer.{as-numbers, Answer-fits}
 use Rattle.answers.specs.declared.Answered.{Answered}
 use Rattle.delivered.specs.declared.PartEnd.{PartEnd}

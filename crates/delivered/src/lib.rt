@@ -13,10 +13,10 @@ ghost use Rattle.run.specs.Run.{run-by, Ran-as, Traced, Counted};
 ghost use Rattle.delivered.specs.Parts.{At-a-stop, Steps-as, Part-as};
 use answers::Answered;
 use run::Ran;
-use run::Reply;
 use state::Core;
 use state::Delivery;
 use state::End;
+use state::reply::Reply;
 use words::pointer::Pointer;
 
 // How a part ends: the run's reply so far, its completed steps, the pointer words of this part's, and of the step at which the run
@@ -62,8 +62,7 @@ fn words_of(core: Core, prs: &mut [u16; 24], memory: &mut [u64]) -> u64
     requires { ⌜ (start-questions no-delivery (as-machine core (now prs) (now memory)) ≡ 0) × At-a-stop (as-machine core (now prs) (now memory)) ⌝ }
     ensures { λ r. ⌜ (r ≡ pointer-words (as-machine core (now (prs .entry)) (now (memory .entry)))) × (r ≤ 64) × (as-machine core (now (prs .exit)) (now (memory .exit)) ≡ as-machine core (now (prs .entry)) (now (memory .entry))) ⌝ }
 {
-    let x = plain::step(core, prs, memory);
-    x.pointers
+    plain::step(core, prs, memory).pointers
 }
 
 // The step at which a part's plain steps stopped, after `count` steps of the run and `read` pointer words of the part.

@@ -8,9 +8,9 @@ use Rattle.model.specs.Run as Run
 use Rattle.model.specs.Listing.{ascii, line, step-line, last-line}
 use Rattle.words.specs.View.{Pointer-within}
 use Rattle.words.specs.declared.pointer.Pointer.{Pointer}
-use Rattle.run.specs.Run.{as-reply, Reply-within}
-use Rattle.run.specs.declared.Reply.{Reply}
-use Rattle.run.specs.declared.Reply.the-variants.{Fault}
+use Rattle.state.specs.Reply.{as-reply, Reply-within}
+use Rattle.state.specs.declared.reply.Reply.{Reply}
+use Rattle.state.specs.declared.reply.Reply.the-variants.{Fault}
 use Rattle.text.specs.Text.{placed}
 use Rattle.text.proofs.TextLaws.{length-placed, next-after, put-after}
 use Rattle.parts.specs.Spaced.{spaced-pointer}

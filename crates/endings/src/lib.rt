@@ -5,7 +5,7 @@ ghost use lib.ListN.{length};
 ghost use Rattle.model.specs.Listing.{decimal, last-line};
 ghost use Rattle.model.specs.Run.{fault};
 ghost use Rattle.words.specs.View.{as-pointer, Pointer-within};
-ghost use Rattle.run.specs.Run.{as-reply, Reply-within};
+ghost use Rattle.state.specs.Reply.{as-reply, Reply-within};
 ghost use Rattle.text.specs.Text.{Put};
 use parts::put_bytes;
 use parts::put_named;
@@ -13,7 +13,7 @@ use parts::put_number;
 use parts::put_pointer;
 use parts::put_short;
 use parts::put_total;
-use run::Reply;
+use state::reply::Reply;
 use words::pointer::Pointer;
 
 // A name with a space after it, the count of completed steps, and the total of their pointer words.

@@ -6,9 +6,9 @@ ghost use Rattle.model.specs.Questions.{start-questions};
 ghost use Rattle.state.specs.View.{as-machine, as-delivery};
 ghost use Rattle.listing.specs.Lines.{Lines-written, Whole-listing};
 use chunks::Line;
-use run::Reply;
 use state::Core;
 use state::Delivery;
+use state::reply::Reply;
 
 fn smaller(x: usize, y: usize) -> usize
     ensures { λ r. ⌜ r ≡ min x y ⌝ }

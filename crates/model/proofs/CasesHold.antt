@@ -8,29 +8,42 @@ use Rattle.model.proofs.Computing.{by-computation}
 pub thirteen-cases-hold : Cases-hold thirteen
 unfolding by-computation left-by Holds about-to-do about-to gated through-pointer returning case-12-registers case-12-words case-12 pointers-up through-pointers case thirteen All-hold Cases-hold
 thirteen-cases-hold = (
+  -- case 1
   ((refl, refl), tt),
   (
+    -- case 2
     (refl, tt),
     (
+      -- case 3
       (refl, (refl, tt)),
       (
+        -- case 4
         (refl, tt),
         (
+          -- case 5
           (refl, tt),
           (
+            -- case 6
             (refl, tt),
             (
+              -- case 7
               (refl, tt),
               (
+                -- case 8
                 (refl, (refl, tt)),
                 (
+                  -- case 9
                   (refl, (refl, tt)),
                   (
+                    -- case 10
                     (refl, (refl, tt)),
                     (
+                      -- case 11
                       (refl, (refl, (refl, tt))),
                       (
+                        -- case 12
                         (refl, (refl, tt)),
+                        -- case 13
                         ((refl, (refl, tt)), tt),
                       ),
                     ),

@@ -16,11 +16,11 @@ use Rattle.model.proofs.TickLaws.{pointer-words-within}
 use Rattle.state.specs.View.{as-machine}
 use Rattle.state.specs.declared.Core.{Core}
 use Rattle.state.proofs.PassingLaws.{ipr-passing, address-passing, length-passing}
+use Rattle.state.specs.declared.reply.Reply.the-variants as Reply
 use Rattle.dispatch.specs.Plain.{plain-step}
 use Rattle.host.specs.Record.{In-record}
 use Rattle.run.specs.Run.{run-by, trace-by, last-by, noted-steps, Ran-as, Traced, Counted}
 use Rattle.run.specs.declared.Ran.{Ran}
-use Rattle.run.specs.declared.Reply.the-variants as Reply
 use Rattle.answers.specs.Answer.{Answers-with}
 use Rattle.answers.specs.declared.Answered.{Answered}
 use Rattle.answers.proofs.AnswerLaws.{count-completed}

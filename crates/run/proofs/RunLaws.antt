@@ -24,11 +24,12 @@ use Rattle.state.specs.declared.After.{After}
 use Rattle.state.specs.declared.End.{End}
 use Rattle.state.specs.declared.End.the-variants.{Completed, Halted, Faulted}
 use Rattle.state.specs.View.{as-pointers, as-machine, ended, Does}
+use Rattle.state.specs.Reply.{as-reply, Reply-within, completed}
 use Rattle.dispatch.specs.Plain.{plain-step}
 use Rattle.dispatch.specs.Dispatch.{dispatched-in}
 use Rattle.dispatch.proofs.PlainLaws.{plain-completes, plain-halts, stop-within}
 use Rattle.processor.specs.Step.{Ready-to-perform}
-use Rattle.run.specs.Run.{run-by, trace-by, last-by, as-reply, Reply-within, completed, Ran-as, noted-steps, Noted, Traced, Counted, On-the-way, At-the-end}
+use Rattle.run.specs.Run.{run-by, trace-by, last-by, Ran-as, noted-steps, Noted, Traced, Counted, On-the-way, At-the-end}
 use Rattle.run.specs.declared.Ran.{Ran}
 
 -- AN INSTRUCTION PERFORMED is the step

@@ -13,12 +13,11 @@ use Rattle.model.specs.Run as Run
 use Rattle.words.specs.View.{as-pointer, Pointer-within}
 use Rattle.state.specs.declared.End.{End}
 use Rattle.state.specs.declared.End.the-variants as End
+use Rattle.state.specs.Reply.{as-reply, Reply-within, completed}
 use Rattle.dispatch.specs.Plain.{plain-step}
 use Rattle.processor.specs.Step.{Ready-to-perform}
 use Rattle.processor.specs.declared.Prepared.{Prepared}
 use Rattle.processor.specs.declared.Prepared.the-variants as Prepared
-use Rattle.run.specs.declared.Reply.{Reply}
-use Rattle.run.specs.declared.Reply.the-variants.{Refused, Spent, Halted, Fault}
 use Rattle.run.specs.declared.Ran.{Ran}
 use Rattle.run.specs.declared.Went.{Went}
 
@@ -35,26 +34,6 @@ module _ (step : Machine → Outcome) where
   unfoldable pub last-by : (left : ℕ) → Machine → ℕ
   last-by zero m = 0
   last-by (suc n) m = Run.fault-count-on (pointer-words m) (step m) (λ k. last-by n k)
-
-abbrev pub as-reply : Reply → Run.Reply
-as-reply (Refused n) = Run.Reply.refused n
-as-reply (Spent c) = Run.Reply.spent c
-as-reply (Halted c) = Run.Reply.halted c
-as-reply (Fault n c t) = Run.Reply.fault n c (as-pointer t)
-
--- a fault's pointer fits the host's record
-abbrev pub Reply-within : Reply → Type 0
-Reply-within (Refused n) = Unit {0}
-Reply-within (Spent c) = Unit {0}
-Reply-within (Halted c) = Unit {0}
-Reply-within (Fault n c t) = Pointer-within t
-
--- the completed steps; a refusal's are none
-abbrev pub completed : Reply → ℕ
-completed (Refused n) = 0
-completed (Spent c) = c
-completed (Halted c) = c
-completed (Fault n c t) = c
 
 -- the definition's run, and 1 to 4 pass again after it
 pub record Ran-as (v : Delivery) (y : Run.Ran) (x : Ran) (m-now : Machine) : Type 0 where

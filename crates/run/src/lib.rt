@@ -16,16 +16,9 @@ use processor::Prepared;
 use state::After;
 use state::Core;
 use state::End;
+use state::reply::Reply;
 use words::descriptor::Descriptor;
 use words::pointer::Pointer;
-
-// All that a run answers; the count is that of the completed steps.
-pub enum Reply {
-    Refused(u8),
-    Spent(u32),
-    Halted(u32),
-    Fault(u8, u32, Pointer),
-}
 
 // `total`: the pointer words of the completed steps; `last`: those of the step at which the run faults, else 0.
 pub struct Ran {

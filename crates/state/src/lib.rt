@@ -1,4 +1,4 @@
-// What a step works on by value, and what it answers; the PRs in place.
+// What a step works on by value, and what it and a run answer; the PRs in place.
 ghost use mathlib.Core.Path.{_≡_};
 ghost use Prim.Native.Nat.{max};
 ghost use Rattle.model.specs.Registers as Registers;
@@ -11,6 +11,7 @@ use words::pointer::Pointer;
 use words::pointer::WordNumber;
 
 pub mod prs;
+pub mod reply;
 
 // A, DBR and IPR.
 pub struct Core {

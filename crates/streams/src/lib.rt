@@ -3,7 +3,7 @@ ghost use Prim.Native.Nat.{_≤_};
 ghost use lib.ListN.{length};
 use libc::STDIN_FILENO;
 use libc::STDOUT_FILENO;
-use run::Reply;
+use state::reply::Reply;
 
 // What one read gave: the bytes that the buffer holds now, and whether it was the last.
 pub struct Piece {
