@@ -12,7 +12,7 @@ use Rattle.model.specs.Words.{field, Pointer}
 use Rattle.model.specs.Registers.{Dbr, Registers, machine, dbr-in, with-a, with-dbr, advanced}
 use Rattle.model.specs.Opcodes.{sum}
 use Rattle.model.specs.Questions.{read-questions, write-questions, dbr-fits}
-use Rattle.model.specs.Program.{Program, fail, finish, write, execute}
+use Rattle.model.specs.Program.{Program, fail, finish, forget, write, execute}
 use Rattle.model.specs.Step as Step
 use Rattle.words.specs.View.{as-pointer}
 use Rattle.words.specs.declared.descriptor.Descriptor.{Descriptor}
@@ -76,7 +76,7 @@ module _ (c : Core) (d : Descriptor) (m : List ℕ) (t : Pointer) (y : Accessed)
         }
 
     after-read : Registers → Words.Descriptor → ℕ → Program
-    after-read r _ v = cond (dbr-fits (length m) (dbr-in v)) (finish (advanced (with-dbr (dbr-in v) r))) (fail 34 t)
+    after-read r _ v = cond (dbr-fits (length m) (dbr-in v)) (forget (finish (advanced (with-dbr (dbr-in v) r)))) (fail 34 t)
 
     module _ (v : Code-dbr.Dbr) (g : as-dbr v ≡ dbr-in w) (b : Bool) (h : b ≡ dbr-fits (length m) (as-dbr v)) where
       pub load-dbr-unfit : (u : Code.Pointer) → not b ≡ true → x ≡ faulted-after c d 34 u → as-pointer u ≡ t → Does-with-any-prs c d m (λ r. Step.load-dbr (length m) r t) x m
