@@ -7,3 +7,4 @@ pub mod CountLaws
 pub mod AlikeLaws
 pub mod WholeLaws
 pub mod ReadingsHold
+pub mod RestLaws
