@@ -15,6 +15,7 @@ pub(super) fn add(cases: &mut Cases) {
     restoring(cases);
     restoring_faults(cases);
     other_tables(cases);
+    many_segments(cases);
 }
 
 /// CODE, then TABLE.
@@ -372,6 +373,22 @@ fn other_tables(cases: &mut Cases) {
             cases.spent(course.completes(0, cleared(look_ups), change));
         } else {
             cases.spent(course.completes(0, look_ups, change));
+        }
+    }
+}
+
+/// The last of 4,096 descriptor words clears, the words beside them don't.
+fn many_segments(cases: &mut Cases) {
+    for (name, opcode) in [("STA", STA), ("AOS", AOS), ("SPP", SPP)] {
+        for (word, clears) in [(0, false), (1, true), (256, true), (257, true), (4_096, true), (4_097, false)] {
+            let machine = with_many_segments(into_table(opcode, word)).with(|m| m.describe(TABLE, open(199, 4_098)));
+            let course = Course::new(format!("{name} to word {word} of a large TABLE"), machine, marked());
+            let change = |m: &mut Image| stored(m, opcode, 199 + usize::from(word));
+            if clears {
+                cases.spent(course.completes(0, cleared(code_and_table), change));
+            } else {
+                cases.spent(course.completes(0, code_and_table, change));
+            }
         }
     }
 }

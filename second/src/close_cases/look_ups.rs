@@ -12,6 +12,7 @@ pub(super) fn add(cases: &mut Cases) {
     marks(cases);
     two_of_one_segment(cases);
     other_segments(cases);
+    large_numbers(cases);
     segments_in_turn(cases);
     chains(cases);
 }
@@ -255,6 +256,26 @@ fn other_segments(cases: &mut Cases) {
     });
     let course = Course::new("the last segment with a descriptor", last, invalid());
     cases.spent(loads(course, |k| k.miss(0, SEGMENTS - 1)));
+}
+
+/// All twelve bits of a segment's number are looked for and kept.
+fn large_numbers(cases: &mut Cases) {
+    for segno in [255, 256, 257, 512, 1_024, 2_048, 4_094, 4_095] {
+        let machine = with_many_segments(program(4, &[plain(LDI), plain(LDI)])).with(|m| {
+            m.describe(segno, code(0, 39));
+            m.registers.ipr.segno = segno;
+        });
+        let mut near = invalid();
+        for (bit, record) in (0..16).zip(&mut near) {
+            (record.valid, record.segment) = (1, segno ^ 1 << bit);
+        }
+        for (which, lent) in [("", invalid()), (", the others near it", near)] {
+            let name = format!("segment {segno} is looked up{which}");
+            let course = Course::new(name, machine.clone(), lent);
+            let course = course.completes(0, |k| k.miss(0, segno), |m| m.registers.a = 0);
+            cases.spent(course.completes(0, |k| k.hit(0), |_| {}));
+        }
+    }
 }
 
 /// Seventeen segments beside CODE: the sixteenth overwrites the first, and the first is looked up anew.

@@ -98,6 +98,15 @@ fn machine(ring: u8) -> Image {
     machine
 }
 
+/// With 4,096 descriptors, in words 200 to 4,295; those from segment 24 on are zeros.
+fn with_many_segments(machine: Image) -> Image {
+    machine.with(|m| {
+        m.memory.resize(4_400, 0);
+        m.memory.copy_within(40..64, 200);
+        m.registers.dbr = Dbr { address: 200, length: 4_096 };
+    })
+}
+
 /// The same with these instructions from IPR on.
 fn program(ring: u8, instructions: &[Instruction]) -> Image {
     machine(ring).with(|m| {

@@ -72,7 +72,7 @@ fn main() -> ExitCode {
             large: 400,
             tables: 1_000_000,
             segments: 2_000_000,
-            close: 400_000,
+            close: 300_000,
             depth: 4,
         },
         (Some("draw"), 2 | 3) => match number(1) {
