@@ -212,7 +212,7 @@ impl CloseComparer {
             && self.lent.registers() == *registers
             && self.lent.memory() == self.mine
             && self.lent.guards_stand()
-            && (self.lent_records.are(&self.records) || call == "kuzhlemor_run")
+            && self.lent_records.are(&self.records)
             && self.lent_records.guards_stand();
         if same {
             return Ok(());
