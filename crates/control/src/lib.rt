@@ -1,15 +1,18 @@
 // The opcodes that move control: transfers, CALL and RETURN.
 ghost use mathlib.Core.Path.{_≡_};
-ghost use mathlib.Core.List.{map};
+ghost use mathlib.Core.List.{List, map};
 ghost use Prim.Native.Nat.{_+_, _≤_};
 ghost use lib.ListN.{length};
+ghost use Rattle.model.specs.Words as Words;
 ghost use Rattle.model.specs.Registers as Registers;
+ghost use Rattle.model.specs.Questions.{return-questions, transfer-questions};
+ghost use Rattle.model.specs.Program.{finish};
 ghost use Rattle.model.specs.Step as Step;
 ghost use Rattle.words.specs.View.{as-pointer, Pointer-within};
 ghost use Rattle.opcodes.specs.Table.{taken};
 ghost use Rattle.segments.specs.Translation.{as-dbr};
-ghost use Rattle.state.specs.View.{as-registers, as-pointers, Ready, Does, Does-with-any-prs};
-ghost use Rattle.control.specs.Call.{Enters, checked-by};
+ghost use Rattle.state.specs.View.{registers-with, as-registers, as-pointers, Ready, Does, Does-with-any-prs, Does-in-any-memory, Does-after-look};
+ghost use Rattle.control.specs.Call.{Enters, ring-by, checked-by, ringed-by, Ring-within, Ring-right};
 use questions::Use;
 use segments::translate::Dbr;
 use segments::translate::Translated;
@@ -40,7 +43,19 @@ pub fn transfer(core: Core, code: Descriptor, memory: &[u64], opcode: u8, t: Poi
     }
     let dbr = core.dbr;
     let ipr = core.ipr;
-    match segments::access::look(Use::Transfer, dbr, memory, ipr, t) {
+    moved_to(
+        core,
+        code,
+        t,
+        segments::access::look(Use::Transfer, dbr, memory, ipr, t),
+    )
+}
+
+// What a transfer that is taken does with the look's answer, wherever the descriptor was found.
+pub fn moved_to(core: Core, code: Descriptor, t: Pointer, x: Translated) -> After
+    ensures { λ y. ⌜ ((ps : List Words.Pointer) → Does-after-look core code ps (transfer-questions (as-pointer (core .ipr)) (as-pointer t)) (as-pointer t) x (λ _. finish (Registers.with-ipr (as-pointer t) (registers-with core ps))) y ps) ⌝ }
+{
+    match x {
         Translated::Refused(n) => state::faulted(core, code, n, t),
         Translated::Passed(d) => entered(core, t, d),
     }
@@ -57,7 +72,14 @@ pub fn check(dbr: Dbr, memory: &[u64], ipr: Pointer, t: Pointer) -> Checked
     requires { ⌜ dbr .address + dbr .length ≤ length (now memory) ⌝ }
     ensures { λ x. ⌜ checked-by (as-dbr dbr) (now (memory .entry)) (as-pointer ipr) (as-pointer t) x ⌝ }
 {
-    match segments::access::look(Use::Call, dbr, memory, ipr, t) {
+    ring_by(t, segments::access::look(Use::Call, dbr, memory, ipr, t))
+}
+
+// What the check makes of the look's answer.
+pub fn ring_by(t: Pointer, x: Translated) -> Checked
+    ensures { λ y. ⌜ y ≡ ring-by (as-pointer t) x ⌝ }
+{
+    match x {
         Translated::Refused(n) => Checked::Bad(n),
         Translated::Passed(d) => Checked::Ring(d, questions::new_ring(t, d)),
     }
@@ -69,7 +91,16 @@ pub fn call(core: Core, code: Descriptor, prs: &mut [u16; 24], memory: &[u64], t
 {
     let dbr = core.dbr;
     let ipr = core.ipr;
-    match check(dbr, memory, ipr, t) {
+    called(core, code, prs, t, check(dbr, memory, ipr, t))
+}
+
+// What CALL does with the check's answer: the move, by its ring.
+pub fn called(core: Core, code: Descriptor, prs: &mut [u16; 24], t: Pointer, x: Checked) -> After
+    requires { ⌜ Ring-within x ⌝ }
+    ensures { λ y. ⌜ Does-in-any-memory core code (as-pointers (now (prs .entry))) (ringed-by x (as-pointer t) (λ n. finish (Step.called n (as-pointer t) (as-registers core (now (prs .entry)))))) (Ring-right x) y (as-pointers (now (prs .exit))) ⌝ }
+{
+    let ipr = core.ipr;
+    match x {
         Checked::Bad(n) => state::faulted(core, code, n, t),
         Checked::Ring(d, ring) => {
             state::prs::set_stack_base(prs, ipr.ring, ring);
@@ -105,7 +136,27 @@ pub fn return_to(
     ensures { λ x. ⌜ Does core code (as-pointers (now (prs .entry))) (now (memory .entry)) (Step.return (as-registers core (now (prs .entry))) (as-pointer t)) x (as-pointers (now (prs .exit))) (now (memory .entry)) ⌝ }
 {
     let dbr = core.dbr;
-    match segments::access::look(Use::Return, dbr, memory, t, t) {
+    returned(
+        core,
+        code,
+        prs,
+        t,
+        segments::access::look(Use::Return, dbr, memory, t, t),
+    )
+}
+
+// What RETURN does with the look's answer.
+pub fn returned(
+    core: Core,
+    code: Descriptor,
+    prs: &mut [u16; 24],
+    t: Pointer,
+    x: Translated,
+) -> After
+    requires { ⌜ t .ring ≤ 7 ⌝ }
+    ensures { λ y. ⌜ Does-after-look core code (as-pointers (now (prs .entry))) (return-questions (as-pointer t)) (as-pointer t) x (λ _. finish (Step.returned (as-pointer t) (as-registers core (now (prs .entry))))) y (as-pointers (now (prs .exit))) ⌝ }
+{
+    match x {
         Translated::Refused(n) => state::faulted(core, code, n, t),
         Translated::Passed(d) => {
             raise_rings(prs, t.ring);

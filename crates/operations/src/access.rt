@@ -5,11 +5,12 @@ ghost use lib.ListN.{length};
 ghost use Rattle.model.specs.Opcodes.{sum};
 ghost use Rattle.model.specs.Registers as Registers;
 ghost use Rattle.model.specs.Questions as Questions;
+ghost use Rattle.model.specs.Program.{finish, forget};
 ghost use Rattle.model.specs.Step as Step;
 ghost use Rattle.words.specs.View.{as-pointer};
 ghost use Rattle.opcodes.specs.Table.{result};
 ghost use Rattle.segments.specs.Translation.{as-dbr};
-ghost use Rattle.state.specs.View.{Ready, Does-with-any-prs};
+ghost use Rattle.state.specs.View.{Ready, Does-with-any-prs, Does-after-read, Does-after-write};
 use questions::Use;
 use segments::access::Accessed;
 use segments::translate::Dbr;
@@ -24,9 +25,22 @@ pub fn load(core: Core, code: Descriptor, memory: &[u64], opcode: u8, t: Pointer
     ensures { λ x. ⌜ Does-with-any-prs core code (now (memory .entry)) (λ r. Step.load (result opcode) r (as-pointer t)) x (now (memory .entry)) ⌝ }
 {
     let dbr = core.dbr;
-    match segments::access::read(Use::Read, dbr, memory, t) {
+    loaded(
+        core,
+        code,
+        opcode,
+        t,
+        segments::access::read(Use::Read, dbr, memory, t),
+    )
+}
+
+// What they do with the read's answer, wherever the descriptor was found.
+pub fn loaded(core: Core, code: Descriptor, opcode: u8, t: Pointer, x: Accessed) -> After
+    ensures { λ y. ⌜ Does-after-read core code (as-pointer t) x (λ r _ w. finish (Registers.advanced (Registers.with-a (result opcode (r .a) w) r))) y ⌝ }
+{
+    match x {
         Accessed::Refused(n) => state::faulted(core, code, n, t),
-        Accessed::Word(d, v) => {
+        Accessed::Word(_d, v) => {
             let a = opcodes::arithmetic::result_of(opcode, core.a, v);
             state::completed(state::with_a(core, a), code)
         }
@@ -39,7 +53,18 @@ pub fn store(core: Core, code: Descriptor, memory: &mut [u64], t: Pointer, value
     ensures { λ x. ⌜ Does-with-any-prs core code (now (memory .entry)) (λ r. Step.store value r (as-pointer t)) x (now (memory .exit)) ⌝ }
 {
     let dbr = core.dbr;
-    let n = segments::access::write(dbr, memory, t, value);
+    stored(
+        core,
+        code,
+        t,
+        segments::access::write(dbr, memory, t, value),
+    )
+}
+
+// What they do with the write's answer.
+pub fn stored(core: Core, code: Descriptor, t: Pointer, n: u8) -> After
+    ensures { λ x. ⌜ Does-after-write core code t n x ⌝ }
+{
     if n != 0 {
         return state::faulted(core, code, n, t);
     }
@@ -82,11 +107,24 @@ pub fn load_dbr(core: Core, code: Descriptor, memory: &[u64], t: Pointer) -> Aft
     ensures { λ x. ⌜ Does-with-any-prs core code (now (memory .entry)) (λ r. Step.load-dbr (length (now (memory .entry))) r (as-pointer t)) x (now (memory .entry)) ⌝ }
 {
     let dbr = core.dbr;
-    match segments::access::read(Use::Read, dbr, memory, t) {
+    dbr_loaded(
+        core,
+        code,
+        memory.len(),
+        t,
+        segments::access::read(Use::Read, dbr, memory, t),
+    )
+}
+
+// What it does with the read's answer, in a memory of so many words.
+pub fn dbr_loaded(core: Core, code: Descriptor, words: usize, t: Pointer, x: Accessed) -> After
+    ensures { λ y. ⌜ Does-after-read core code (as-pointer t) x (λ r _ w. Step.if-dbr-fits words (Registers.dbr-in w) (as-pointer t) (forget (finish (Registers.advanced (Registers.with-dbr (Registers.dbr-in w) r))))) y ⌝ }
+{
+    match x {
         Accessed::Refused(n) => state::faulted(core, code, n, t),
-        Accessed::Word(d, v) => {
+        Accessed::Word(_d, v) => {
             let next = dbr_in(v);
-            if !is_dbr(next, memory.len()) {
+            if !is_dbr(next, words) {
                 return state::faulted(core, code, 34, t);
             }
             state::completed(state::with_dbr(core, next), code)

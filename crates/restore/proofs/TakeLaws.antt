@@ -20,12 +20,12 @@ use Rattle.model.proofs.DeliveredLaws.{restored}
 use Rattle.words.specs.View.{as-pointer, Decoded-pointer}
 use Rattle.words.specs.declared.descriptor.Descriptor.{Descriptor}
 use Rattle.words.specs.declared.pointer.Pointer as Code
-use Rattle.segments.specs.Translation.{as-dbr, descriptor-word, use-at, translated, Looks, looked}
+use Rattle.segments.specs.Translation.{as-dbr, Segment-fits, Segment-holds, descriptor-word, use-at, looked}
 use Rattle.segments.specs.declared.translate.Translated.{Translated}
 use Rattle.segments.specs.declared.translate.Translated.the-variants.{Refused, Passed}
 use Rattle.segments.specs.declared.translate.Dbr as Code-dbr
-use Rattle.segments.proofs.UseLaws.{look-refused}
-use Rattle.state.specs.View.{pointers-in, as-pointers, registers-with, machine-with, ended}
+use Rattle.segments.proofs.UseLaws.{segment-fits, look-refused}
+use Rattle.state.specs.View.{pointers-in, as-pointers, registers-with, machine-with, ended, passed-by}
 use Rattle.state.specs.declared.Core.{Core}
 use Rattle.state.specs.declared.End.the-variants.{Completed, Faulted}
 use Rattle.restore.specs.declared.Settled.{Settled}
@@ -54,10 +54,6 @@ module _ (t : Pointer) (d l : ℕ) (e : l ≡ descriptor-in d .length) where
 pub word-fits : (d i : ℕ) → i < descriptor-in d .length → i < 65536
 unfolding descriptor-in Words.field
 word-fits d i h = omega arith
-
--- a pointer that has passed 15
-pub passed-inside : (b : Dbr) (m : List ℕ) (p : Code.Pointer) (y : Translated) (d : Descriptor) → translated b m (as-pointer p) y → y ≡ Passed d → p .word .0 < descriptor-in (d .0) .length
-passed-inside b m p y d s e = (rw e at s) .inside
 
 pub ruleset part-answers = (part-too-short, part-unreadable, part-passes, word-fits)
 
@@ -236,49 +232,63 @@ module _ (c : Core) (ps : List Pointer) (size : ℕ) (f : List ℕ) (t : Pointer
 
 pub ruleset takings = (frame-unfit, frame-below, frame-taken)
 
--- WHERE THE LOOK HAS PASSED, the frame is there whole
-module _ (b : Dbr) (m : List ℕ) (p : Code.Pointer) (y : Translated) (d : Descriptor) (s : looked b m (as-pointer p) (part-questions 13 (as-pointer p)) y) (e : y ≡ Passed d) where
-  part-looks : Looks b m (as-pointer p) (part-questions 13 (as-pointer p)) (d .0)
-  part-looks = rw e at s
+-- WHERE THE FRAME'S LAST WORD IS INSIDE, the frame is there whole
+module _ (y : Translated) (d : Descriptor) (e : y ≡ Passed d) (i : ℕ) (h : Segment-holds y (i + 12)) where
+  pub frame-within : i + 13 ≤ descriptor-in (d .0) .length
+  frame-within = let z = h .inside d e in omega (arith, z)
 
-  pub frame-within : p .word .0 + 13 ≤ descriptor-in (d .0) .length
-  unfolding part-questions word-questions
-  frame-within = let z = ltb-true (p .word .0 + 13 - 1) (descriptor-in (d .0) .length) (ask-yes _ _ _ (then-ask-yes _ _ (part-looks .asked) .0) .0) in omega (arith, z)
-
-  pub segment-fits : descriptor-in (d .0) .address + descriptor-in (d .0) .length ≤ length m
-  segment-fits = part-looks .found .fits
-
-  pub thirteen-words : (f : List ℕ) → f ≡ take 13 (drop (descriptor-in (d .0) .address + p .word .0) m) → length f ≡ 13
-  thirteen-words f g =
+  pub thirteen-words : (m f : List ℕ) → Segment-fits y (length m) → f ≡ take 13 (drop (descriptor-in (d .0) .address + i) m) → length f ≡ 13
+  thirteen-words m f s g =
       let x = frame-within in
-      let z = segment-fits in
-      let l = length-drop (descriptor-in (d .0) .address + p .word .0) m in
-      ap length g ∙ length-take-le 13 (drop (descriptor-in (d .0) .address + p .word .0) m) (omega (arith, x, z, l))
+      let z = s .fits d e in
+      let l = length-drop (descriptor-in (d .0) .address + i) m in
+      ap length g ∙ length-take-le 13 (drop (descriptor-in (d .0) .address + i) m) (omega (arith, x, z, l))
 
--- RCU
-module _ (c : Core) (ps : List Pointer) (m : List ℕ) (t : Pointer) (y : Translated)
-    (s : looked (as-dbr (c .dbr)) m t (part-questions 13 t) y) (x : Settled) where
-  pub restore-refused : (n : ℕ) (u : Code.Pointer) → y ≡ Refused n → x ≡ fault-of c n u → as-pointer u ≡ t → Ends-as c ps m (Step.restore (length m) t) x ps m
-  unfolding Step.restore
-  restore-refused n u e f h = ends-fault c ps m _ x n u f (look-refused (machine-with c ps m) t _ y s _ n e ∙ ap (faults n) (sym h))
+-- the frame's words in a segment, taken up
+abbrev pub taken-there : (memory : List ℕ) → Pointer → Words.Descriptor → Program
+taken-there m t d = Step.take-up (length m) t (Step.registers-in (take 13 (drop (d .address + t .word) m)))
 
-  pub restore-taken : (e : Descriptor) → y ≡ Passed e → (f : List ℕ) → f ≡ take 13 (drop (descriptor-in (e .0) .address + t .word) m) → (us : List Pointer) →
-      Taken c ps (length m) f t x us → Ends-as c ps m (Step.restore (length m) t) x us m
-  unfolding part-questions word-questions use-at absolute-address descriptor-of descriptor-word
-  restore-taken e g f h us k =
-      let l = rw g at s in
-      let d = l .found .same in
-      let asked = then-ask-yes _ _ (l .asked) in
-      let whole = ltb-true (t .word + 13 - 1) (descriptor-in (e .0) .length) (ask-yes _ _ _ (asked .0) .0) in
-      record {
-        ends =
-            subst (λ z. ended (machine-with c ps m) z (x .end) (machine-with (x .core) us m))
-            (sym
-            (restored (machine-with c ps m) t (use-passes-segment _ _ _ _ (l .found .passes)) (rw (← d) (asked .1))
-            (let z = ap (λ w. descriptor-in w .length) d in omega (arith, z, whole))
-            ∙ ap (λ ws. execute (machine-with c ps m) (Step.take-up (length m) t (Step.registers-in ws)))
-            (ap (λ w. take 13 (drop (descriptor-in w .address + t .word) m)) (sym d) ∙ sym h)))
-            (k .ends m refl .ends);
-      }
+-- RCU, once 11 to 15 and 22 are answered
+module _ (c : Core) (ps : List Pointer) (m : List ℕ) (t : Pointer) (y : Translated) (x : Settled) where
+  pub restored-refused : (n : ℕ) (u : Code.Pointer) → y ≡ Refused n → x ≡ fault-of c n u → as-pointer u ≡ t → Ends-as c ps m (passed-by y t (taken-there m t)) x ps m
+  unfolding passed-by execute
+  restored-refused n u e f h = ends-fault c ps m _ x n u f (rw (e, h))
 
-pub ruleset restorings = (restore-refused, restore-taken, frame-within, segment-fits, thirteen-words)
+  pub restored-taken : (e : Descriptor) → y ≡ Passed e → (f : List ℕ) → f ≡ take 13 (drop (descriptor-in (e .0) .address + t .word) m) → (us : List Pointer) →
+      Taken c ps (length m) f t x us → Ends-as c ps m (passed-by y t (taken-there m t)) x us m
+  unfolding passed-by
+  restored-taken e g f h us k = rw (g, ← h) (k .ends m refl)
+
+pub ruleset restorings = (segment-fits, frame-within, thirteen-words)
+
+pub part-holds : (b : Dbr) (m : List ℕ) (t : Pointer) (y : Translated) → looked b m t (part-questions 13 t) y → Segment-holds y (t .word + 12)
+unfolding part-questions word-questions
+part-holds b m t y s =
+    record {
+      inside = λ d e.
+          let z = ltb-true (t .word + 13 - 1) (descriptor-in (d .0) .length) (ask-yes _ _ _ (then-ask-yes _ _ ((rw e at s) .asked) .0) .0) in
+          omega (arith, z);
+    }
+
+-- by what the look has answered
+restore-refuses : (c : Core) (ps : List Pointer) (m : List ℕ) (t : Pointer) (n : ℕ) → looked (as-dbr (c .dbr)) m t (part-questions 13 t) (Refused n) →
+    execute (machine-with c ps m) (Step.restore (length m) t) ≡ faults n t
+unfolding Step.restore
+restore-refuses c ps m t n s = look-refused (machine-with c ps m) t _ (Refused n) s _ n refl
+
+pub restore-looked : (c : Core) (ps : List Pointer) (m : List ℕ) (t : Pointer) (y : Translated) → looked (as-dbr (c .dbr)) m t (part-questions 13 t) y → (x : Settled) (us : List Pointer) →
+    Ends-as c ps m (passed-by y t (taken-there m t)) x us m → Ends-as c ps m (Step.restore (length m) t) x us m
+unfolding passed-by execute part-questions word-questions use-at absolute-address descriptor-of descriptor-word
+restore-looked c ps m t y s x us h =
+    record { ends = subst (λ z. ended (machine-with c ps m) z (x .end) (machine-with (x .core) us m)) (sym (by-answer y s)) (h .ends) }
+  where
+    by-answer : (y : Translated) → looked (as-dbr (c .dbr)) m t (part-questions 13 t) y →
+        execute (machine-with c ps m) (Step.restore (length m) t) ≡ execute (machine-with c ps m) (passed-by y t (taken-there m t))
+    by-answer (Refused n) s = restore-refuses c ps m t n s
+    by-answer (Passed e) l =
+        let d = l .found .same in
+        let asked = then-ask-yes _ _ (l .asked) in
+        let whole = ltb-true (t .word + 13 - 1) (descriptor-in (e .0) .length) (ask-yes _ _ _ (asked .0) .0) in
+        restored (machine-with c ps m) t (use-passes-segment _ _ _ _ (l .found .passes)) (rw (← d) (asked .1))
+        (let z = ap (λ w. descriptor-in w .length) d in omega (arith, z, whole))
+        ∙ ap (λ w. execute (machine-with c ps m) (taken-there m t (descriptor-in w))) (sym d)

@@ -7,9 +7,9 @@ ghost use Rattle.model.specs.Words.{descriptor-in, pointer-in};
 ghost use Rattle.model.specs.Questions.{rings-at-least, part-questions};
 ghost use Rattle.model.specs.Step as Step;
 ghost use Rattle.words.specs.View.{as-pointer};
-ghost use Rattle.segments.specs.Translation.{as-dbr, looked};
+ghost use Rattle.segments.specs.Translation.{as-dbr, asked-of, Segment-fits, Segment-holds, looked};
 ghost use Rattle.state.specs.declared.End.the-variants.{Faulted};
-ghost use Rattle.state.specs.View.{as-pointers, Ready};
+ghost use Rattle.state.specs.View.{as-pointers, Ready, passed-by};
 ghost use Rattle.restore.specs.Taken.{Ends-as, Taken};
 use segments::translate::Dbr;
 use segments::translate::Translated;
@@ -39,11 +39,12 @@ fn part_answer(t: Pointer, d: Descriptor) -> u8
     0
 }
 
-fn look(dbr: Dbr, memory: &[u64], t: Pointer) -> Translated
-    requires { ⌜ dbr .address + dbr .length ≤ length (now memory) ⌝ }
-    ensures { λ x. ⌜ looked (as-dbr dbr) (now (memory .entry)) (as-pointer t) (part-questions 13 (as-pointer t)) x ⌝ }
+// Both, once 11 to 15 of the first are answered, wherever the descriptor was found.
+pub fn ask(x: Translated, t: Pointer) -> Translated
+    requires { ⌜ Segment-holds x (t .word .0) ⌝ }
+    ensures { λ y. ⌜ y ≡ asked-of (part-questions 13 (as-pointer t)) x ⌝ }
 {
-    match segments::translate::translate(dbr, memory, t) {
+    match x {
         Translated::Refused(n) => Translated::Refused(n),
         Translated::Passed(d) => {
             let n = part_answer(t, d);
@@ -53,6 +54,13 @@ fn look(dbr: Dbr, memory: &[u64], t: Pointer) -> Translated
             Translated::Passed(d)
         }
     }
+}
+
+fn look(dbr: Dbr, memory: &[u64], t: Pointer) -> Translated
+    requires { ⌜ dbr .address + dbr .length ≤ length (now memory) ⌝ }
+    ensures { λ x. ⌜ looked (as-dbr dbr) (now (memory .entry)) (as-pointer t) (part-questions 13 (as-pointer t)) x ⌝ }
+{
+    ask(segments::translate::translate(dbr, memory, t), t)
 }
 
 // The thirteen words, a part of the segment's own.
@@ -129,7 +137,21 @@ pub fn restore(core: Core, prs: &mut [u16; 24], memory: &[u64], t: Pointer) -> S
     ensures { λ x. ⌜ Ends-as core (as-pointers (now (prs .entry))) (now (memory .entry)) (Step.restore (length (now (memory .entry))) (as-pointer t)) x (as-pointers (now (prs .exit))) (now (memory .entry)) ⌝ }
 {
     let dbr = core.dbr;
-    match look(dbr, memory, t) {
+    restored(core, prs, memory, t, look(dbr, memory, t))
+}
+
+// What it does once those are answered.
+pub fn restored(
+    core: Core,
+    prs: &mut [u16; 24],
+    memory: &[u64],
+    t: Pointer,
+    x: Translated,
+) -> Settled
+    requires { ⌜ Segment-fits x (length (now memory)) × Segment-holds x (t .word .0 + 12) ⌝ }
+    ensures { λ y. ⌜ Ends-as core (as-pointers (now (prs .entry))) (now (memory .entry)) (passed-by x (as-pointer t) (λ d. Step.take-up (length (now (memory .entry))) (as-pointer t) (Step.registers-in (take 13 (drop (d .address + t .word .0) (now (memory .entry))))))) y (as-pointers (now (prs .exit))) (now (memory .entry)) ⌝ }
+{
+    match x {
         Translated::Refused(n) => faulted(core, n, t),
         Translated::Passed(d) => take_up(core, prs, frame_at(memory, d, t.word), memory.len(), t),
     }

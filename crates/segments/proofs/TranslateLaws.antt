@@ -1,15 +1,19 @@
 -- Questions 11 to 15, one law for each answer, from facts as the code's tests give them. Assumes nothing.
-use mathlib.Core.Path.{_≡_, refl, sym, _∙_}
+use mathlib.Core.Path.{_≡_, refl, _∙_}
 use mathlib.Core.Bool.{Bool, true, false, not}
 use mathlib.Core.List.{List}
 use Prim.Native.Nat.{ℕ, zero, suc, _+_, _≤_, _<_}
+use native.Mathlib.Omega.{arith}
 use lib.ListN.{length}
-use borrow.Author.Tests.{le-ltb, lt-ltb, le-leb, lt-leb, not-true, not-false}
+use borrow.Author.Tests.{le-ltb, lt-ltb, ltb-true, le-leb, lt-leb, not-true, not-false}
 use Rattle.model.specs.Words.{descriptor-in, Pointer}
 use Rattle.model.specs.Registers.{Dbr}
 use Rattle.model.specs.Questions.{ask, then-ask, segment-questions, word-questions, use-questions}
-use Rattle.model.proofs.QuestionLaws.{segment-within-memory}
-use Rattle.segments.specs.Translation.{descriptor-word, descriptor-at, descriptor-answer, use-at, Passes}
+use Rattle.model.proofs.QuestionLaws.{ask-yes, then-ask-yes, segment-within-memory}
+use Rattle.words.specs.declared.descriptor.Descriptor.{Descriptor}
+use Rattle.segments.specs.Translation.{descriptor-word, descriptor-answer, word-answer, passed-unless, use-at, Passes, translated}
+use Rattle.segments.specs.declared.translate.Translated.{Translated}
+use Rattle.segments.specs.declared.translate.Translated.the-variants.{Refused, Passed}
 
 -- 12 TO 14
 module _ (n w : ℕ) (v : Bool) (e : v ≡ descriptor-in w .valid) where
@@ -53,33 +57,75 @@ unfolding then-ask
 then-ask-no zero x h = absurd (h refl)
 then-ask-no (suc n) x h = refl
 
+-- 12 TO 15 of a descriptor, wherever it was found
+pub refused-by : (n : ℕ) (d : Descriptor) → (n ≡ 0 → ⊥) → Refused n ≡ passed-unless n d
+unfolding passed-unless
+refused-by zero d z = absurd (z refl)
+refused-by (suc n) d z = refl
+
+module _ (size w i n : ℕ) (e : n ≡ descriptor-answer size w) where
+  no-stays : (n ≡ 0 → ⊥) → word-answer size w i ≡ n
+  unfolding word-answer
+  no-stays z = rw (← e) (then-ask-no n _ z)
+
+  module _ (z : n ≡ 0) (l : ℕ) (el : l ≡ descriptor-in w .length) where
+    no-is-15 : l ≤ i → word-answer size w i ≡ 15
+    unfolding word-answer word-questions ask then-ask
+    no-is-15 x = rw (← e, z, ← el, le-ltb _ _ x)
+
+    yes-to-15 : i < l → word-answer size w i ≡ 0
+    unfolding word-answer word-questions ask then-ask
+    yes-to-15 x = rw (← e, z, ← el, lt-ltb _ _ x)
+
+module _ (size : ℕ) (d : Descriptor) (i n : ℕ) (e : n ≡ descriptor-answer size (d .0)) where
+  pub judge-refuses : (n ≡ 0 → ⊥) → Refused n ≡ passed-unless (word-answer size (d .0) i) d
+  judge-refuses z = rw (no-stays size (d .0) i n e z) (refused-by n d z)
+
+  module _ (z : n ≡ 0) (l : ℕ) (el : l ≡ descriptor-in (d .0) .length) where
+    pub judge-15 : l ≤ i → Refused 15 ≡ passed-unless (word-answer size (d .0) i) d
+    unfolding passed-unless
+    judge-15 x = rw (no-is-15 size (d .0) i n e z l el x)
+
+    pub judge-passes : i < l → Passed d ≡ passed-unless (word-answer size (d .0) i) d
+    unfolding passed-unless
+    judge-passes x = rw (yes-to-15 size (d .0) i n e z l el x)
+
+pub ruleset judgements = (judge-refuses, judge-15, judge-passes)
+
+-- 11, and then 12 to 15 of the word of memory
 module _ (b : Dbr) (m : List ℕ) (t : Pointer) where
   pub law-11 : b .length ≤ t .segment → use-at b m t ≡ 11
   unfolding use-at use-questions segment-questions ask then-ask
   law-11 h = simp (le-ltb _ _ h)
 
-  module _ (w n : ℕ) (h : t .segment < b .length) (e : n ≡ descriptor-answer (length m) w) (f : w ≡ descriptor-word b m (t .segment)) where
-    answer-here : segment-questions (length m) b (t .segment) (descriptor-at b m (t .segment)) ≡ n
-    answer-here = rw (← f) (segment-answer (length m) b (t .segment) w h ∙ sym e)
+  module _ (w : ℕ) (h : t .segment < b .length) (f : w ≡ descriptor-word b m (t .segment)) where
+    after-11 : use-at b m t ≡ word-answer (length m) w (t .word)
+    unfolding use-at use-questions word-answer
+    after-11 = rw (← f, segment-answer (length m) b (t .segment) w h)
 
-    pub law-descriptor : (n ≡ 0 → ⊥) → use-at b m t ≡ n
-    unfolding use-at use-questions
-    law-descriptor z = rw answer-here (then-ask-no n _ z)
+    word-passes : word-answer (length m) w (t .word) ≡ 0 → Passes b m t w
+    unfolding word-answer word-questions
+    word-passes e =
+        let y = then-ask-yes _ _ e in
+        record {
+          passes = after-11 ∙ e;
+          same = f;
+          right = y .0;
+          inside = ltb-true _ _ (ask-yes _ _ _ (y .1) .0);
+          fits = right-fits (length m) w (y .0);
+        }
 
-    module _ (z : n ≡ 0) (l : ℕ) (el : l ≡ descriptor-in w .length) where
-      pub law-15 : l ≤ t .word → use-at b m t ≡ 15
-      unfolding use-at use-questions word-questions ask then-ask
-      law-15 x = rw (answer-here, z, ← f, ← el, le-ltb _ _ x)
+  pub law-passes : (w n : ℕ) → t .segment < b .length → n ≡ descriptor-answer (length m) w → w ≡ descriptor-word b m (t .segment) → n ≡ 0 →
+      (l : ℕ) → l ≡ descriptor-in w .length → t .word < l → Passes b m t w
+  law-passes w n h e f z l el x = word-passes w h f (yes-to-15 (length m) w (t .word) n e z l el x)
 
-      pub law-passes : t .word < l → Passes b m t w
-      unfolding use-at use-questions word-questions ask then-ask
-      law-passes x =
-          record {
-            passes = rw (answer-here, z, ← f, ← el, lt-ltb _ _ x);
-            same = f;
-            right = sym e ∙ z;
-            inside = rw (← el) x;
-            fits = right-fits (length m) w (sym e ∙ z);
-          }
+  module _ (d : Descriptor) (h : t .segment < b .length) (f : d .0 ≡ descriptor-word b m (t .segment)) where
+    by-answer : (n : ℕ) → word-answer (length m) (d .0) (t .word) ≡ n → translated b m t (passed-unless n d)
+    unfolding passed-unless
+    by-answer zero e = word-passes (d .0) h f e
+    by-answer (suc n) e = (after-11 (d .0) h f ∙ e, omega arith)
 
-pub ruleset translations = (law-11, law-descriptor, law-15, law-passes)
+    pub law-judged : (x : Translated) → x ≡ passed-unless (word-answer (length m) (d .0) (t .word)) d → translated b m t x
+    law-judged x e = rw e (by-answer _ refl)
+
+pub ruleset translations = (law-11, law-judged)

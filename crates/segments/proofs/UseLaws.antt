@@ -1,5 +1,5 @@
 -- What a use's answer says of the model: one law for each node of a program. Assumes nothing.
-use mathlib.Core.Path.{_≡_, refl, sym, _∙_}
+use mathlib.Core.Path.{_≡_, refl, _∙_}
 use mathlib.Core.List.{List}
 use Prim.Native.Nat.{ℕ, zero, suc, _+_, _≤_, _<_}
 use native.Mathlib.Omega.{arith}
@@ -12,14 +12,13 @@ use Rattle.model.specs.Program.{Program, look, read, write, Outcome, faults, co
 use Rattle.model.proofs.TickLaws.{unless-fault-no, unless-fault-yes}
 use Rattle.model.proofs.ProgramLaws.{or-fault-no, or-fault-yes}
 use Rattle.words.specs.declared.descriptor.Descriptor.{Descriptor}
-use Rattle.segments.proofs.TranslateLaws.{then-ask-no}
-use Rattle.segments.specs.Translation.{descriptor-word, use-at, use-by, Passes, translated, Looks, looked, word-through, Reads, accessed, Writes}
+use Rattle.segments.proofs.TranslateLaws.{then-ask-no, refused-by}
+use Rattle.segments.specs.Translation.{descriptor-word, passed-unless, asked-of, Segment-fits, Segment-holds, Segment-right, use-at, use-by, Passes, translated, Looks, looked, word-through, word-by, accessed, answer-of, written-by, Writes}
 use Rattle.segments.specs.declared.translate.Translated.{Translated}
 use Rattle.segments.specs.declared.translate.Translated.the-variants.{Refused, Passed}
 use Rattle.segments.specs.declared.access.Accessed.{Accessed}
 use Rattle.segments.specs.declared.access.Accessed.the-variants as Accessed
 
--- 11 TO 15 HAVE ANSWERED: a no stays, and after a yes the use's own questions tell
 one-at-least : (n : ℕ) → 1 ≤ n → n ≡ 0 → ⊥
 one-at-least n h e = absurd (omega arith)
 
@@ -27,60 +26,109 @@ pub at-least-one : (n : ℕ) → (n ≡ 0 → ⊥) → 1 ≤ n
 at-least-one zero h = absurd (h refl)
 at-least-one (suc n) h = omega arith
 
-module _ (b : Dbr) (m : List ℕ) (t : Pointer) (y : Translated) (s : translated b m t y) where
-  module _ (n : ℕ) (e : y ≡ Refused n) where
-    pub refused-by : (q : Question) → use-by b m t q ≡ n
-    unfolding use-by
-    refused-by q = let h = rw e at s in rw (h .0) (then-ask-no n _ (one-at-least n (h .1)))
+-- THE QUESTIONS OF THE USE, of a descriptor wherever it was found: a no stays, and after a yes they tell
+module _ (q : Question) (x : Translated) where
+  pub no-stays-no : (n : ℕ) → x ≡ Refused n → Refused n ≡ asked-of q x
+  unfolding asked-of
+  no-stays-no n e = rw e
 
-    pub refused-at-least-one : 1 ≤ n
-    refused-at-least-one = (rw e at s) .1
+  module _ (d : Descriptor) (e : x ≡ Passed d) (n : ℕ) (f : n ≡ q (descriptor-in (d .0))) where
+    pub use-refuses : (n ≡ 0 → ⊥) → Refused n ≡ asked-of q x
+    unfolding asked-of
+    use-refuses z = rw (e, ← f) (refused-by n d z)
 
-  module _ (d : Descriptor) (e : y ≡ Passed d) where
-    passed : Passes b m t (d .0)
-    passed = rw e at s
+    pub use-passes : n ≡ 0 → Passed d ≡ asked-of q x
+    unfolding asked-of passed-unless
+    use-passes z = rw (e, ← f, z)
 
-    -- what is asked then has the answer n
-    pub asked-by : (q : Question) (n : ℕ) → n ≡ q (descriptor-in (d .0)) → use-by b m t q ≡ n
-    unfolding use-by then-ask
-    asked-by q n f = rw (passed .passes, ← (passed .same), ← f)
+pub ruleset asks = (no-stays-no, use-refuses, use-passes)
 
-    pub look-passes : (q : Question) (n : ℕ) → n ≡ q (descriptor-in (d .0)) → n ≡ 0 → Looks b m t q (d .0)
-    look-passes q n f z = record { found = passed; asked = sym f ∙ z }
+pub translated-holds : (b : Dbr) (m : List ℕ) (t : Pointer) (x : Translated) → translated b m t x → Segment-holds x (t .word)
+translated-holds b m t x s = record { inside = λ d e. (rw e at s) .inside }
 
-pub ruleset looks = (refused-by, refused-at-least-one, asked-by, at-least-one, look-passes)
+-- A LOOK: they are asked of what 11 to 15 have answered
+module _ (b : Dbr) (m : List ℕ) (t : Pointer) (q : Question) where
+  asked-passed : (d : Descriptor) (n : ℕ) → Passes b m t (d .0) → q (descriptor-in (d .0)) ≡ n → looked b m t q (passed-unless n d)
+  unfolding passed-unless use-by then-ask
+  asked-passed d zero s e = record { found = s; asked = e }
+  asked-passed d (suc n) s e = (rw (s .passes, ← (s .same), e), omega arith)
+
+  asked-looked : (x : Translated) → translated b m t x → looked b m t q (asked-of q x)
+  unfolding asked-of use-by
+  asked-looked (Refused n) s = (rw (s .0) (then-ask-no n _ (one-at-least n (s .1))), s .1)
+  asked-looked (Passed d) s = asked-passed d _ s refl
+
+  pub look-asked : (x y : Translated) → translated b m t x → y ≡ asked-of q x → looked b m t q y
+  look-asked x y s e = rw e (asked-looked x s)
 
 pub looks-passes : (b : Dbr) (m : List ℕ) (t : Pointer) (q : Question) (d : ℕ) → Looks b m t q d → use-by b m t q ≡ 0
 unfolding use-by then-ask
 looks-passes b m t q d s = rw (s .found .passes, ← (s .found .same), s .asked)
 
--- A LOOK HAS ANSWERED: the word there, read or written
-module _ (b : Dbr) (m : List ℕ) (t : Pointer) (q : Question) (y : Translated) (s : looked b m t q y) where
-  module _ (n : ℕ) (e : y ≡ Refused n) where
-    pub access-refused : accessed b m t q (Accessed.Refused n)
-    access-refused = rw e at s
+-- THE WORD THERE, read or written, by a descriptor wherever it was found
+module _ (x : Translated) where
+  module _ (d : Descriptor) (e : x ≡ Passed d) where
+    pub segment-fits : (size : ℕ) → Segment-fits x size → descriptor-in (d .0) .address + descriptor-in (d .0) .length ≤ size
+    segment-fits size s = s .fits d e
 
-    pub write-refused : (v : ℕ) → Writes b m t q v n m
-    write-refused v = let h = rw e at s in record { asked = h .0; kept = λ _. refl; stored = λ z. absurd (one-at-least n (h .1) z) }
+    pub word-inside : (i : ℕ) → Segment-holds x i → i < descriptor-in (d .0) .length
+    word-inside i s = s .inside d e
 
-  module _ (d : Descriptor) (e : y ≡ Passed d) where
-    pub access-passed : (w : ℕ) → w ≡ word-through m (d .0) (t .word) → Reads b m t q (d .0) w
-    access-passed w f = record { looks = rw e at s; word-same = f }
+  module _ (m : List ℕ) (i : ℕ) where
+    pub word-refused : (n : ℕ) → x ≡ Refused n → Accessed.Refused n ≡ word-by m i x
+    unfolding word-by
+    word-refused n e = rw e
 
-    pub write-stored : (v : ℕ) (m-now : List ℕ) → m-now ≡ set m (descriptor-in (d .0) .address + t .word) v → Writes b m t q v 0 m-now
-    write-stored v m-now f =
-        let h = rw e at s in
-        record { asked = looks-passes b m t q (d .0) h; kept = λ z. absurd (z refl); stored = λ _. f ∙ rw (h .found .same) }
+    pub word-found : (d : Descriptor) (w : ℕ) → x ≡ Passed d → w ≡ word-through m (d .0) i → Accessed.Word d w ≡ word-by m i x
+    unfolding word-by
+    word-found d w e f = rw (e, f)
 
--- what a passed descriptor bounds; the pointer is written out, so that a goal on the word number alone shows it
-module _ (b : Dbr) (m : List ℕ) (n k i : ℕ) (q : Question) (y : Translated) (d : Descriptor) (s : looked b m (record { ring = n; segment = k; word = i }) q y) (e : y ≡ Passed d) where
-  pub segment-fits : descriptor-in (d .0) .address + descriptor-in (d .0) .length ≤ length m
-  segment-fits = (rw e at s) .found .fits
+    pub write-refused : (v n : ℕ) → x ≡ Refused n → m ≡ written-by m i v x
+    unfolding written-by
+    write-refused v n e = rw e
 
-  pub word-inside : i < descriptor-in (d .0) .length
-  word-inside = (rw e at s) .found .inside
+    pub write-stored : (v : ℕ) (d : Descriptor) (m-now : List ℕ) → x ≡ Passed d → m-now ≡ set m (descriptor-in (d .0) .address + i) v → m-now ≡ written-by m i v x
+    unfolding written-by
+    write-stored v d m-now e f = rw e f
 
-pub ruleset accesses = (segment-fits, word-inside, access-refused, access-passed, write-refused, write-stored)
+  pub answer-refused : (n : ℕ) → x ≡ Refused n → n ≡ answer-of x
+  unfolding answer-of
+  answer-refused n e = rw e
+
+  pub answer-passed : (d : Descriptor) → x ≡ Passed d → 0 ≡ answer-of x
+  unfolding answer-of
+  answer-passed d e = rw e
+
+pub ruleset words-there = (segment-fits, word-inside, word-refused, word-found, write-refused, write-stored, answer-refused, answer-passed)
+
+-- by what a look has answered
+module _ (b : Dbr) (m : List ℕ) (t : Pointer) (q : Question) where
+  pub looked-fits : (x : Translated) → looked b m t q x → Segment-fits x (length m)
+  looked-fits x s = record { fits = λ d e. (rw e at s) .found .fits }
+
+  pub looked-holds : (x : Translated) → looked b m t q x → Segment-holds x (t .word)
+  looked-holds x s = record { inside = λ d e. (rw e at s) .found .inside }
+
+  pub looked-right : (x : Translated) → looked b m t q x → Segment-right x q (length m)
+  looked-right x s = record { right = λ d e. (rw e at s) .found .right; asked = λ d e. (rw e at s) .asked }
+
+  pub read-looked : (x : Translated) → looked b m t q x → (y : Accessed) → y ≡ word-by m (t .word) x → accessed b m t q y
+  unfolding word-by
+  read-looked x s y e = rw e (by-look x s)
+    where
+      by-look : (x : Translated) → looked b m t q x → accessed b m t q (word-by m (t .word) x)
+      by-look (Refused n) s = s
+      by-look (Passed d) s = record { looks = s; word-same = refl }
+
+  pub write-looked : (x : Translated) → looked b m t q x → (v n : ℕ) (m-now : List ℕ) → n ≡ answer-of x → m-now ≡ written-by m (t .word) v x → Writes b m t q v n m-now
+  unfolding answer-of written-by
+  write-looked x s v n m-now e f = rw (e, f) (by-look x s)
+    where
+      by-look : (x : Translated) → looked b m t q x → Writes b m t q v (answer-of x) (written-by m (t .word) v x)
+      by-look (Refused n) s = record { asked = s .0; kept = λ _. refl; stored = λ z. absurd (one-at-least n (s .1) z) }
+      by-look (Passed d) s = record { asked = looks-passes b m t q (d .0) s; kept = λ z. absurd (z refl); stored = λ _. rw (s .found .same) }
+
+pub ruleset accesses = (looked-fits, looked-holds, read-looked, write-looked)
 
 -- THE NODES OF A PROGRAM. A use asks by DBR and memory alone
 pub use-answer-by : (m : Machine) (t : Pointer) (q : Question) → use-answer m t q ≡ use-by (m .registers .dbr) (m .memory) t q

@@ -3,7 +3,7 @@ ghost use mathlib.Core.Path.{_≡_};
 ghost use Prim.Native.Nat.{_+_, _≤_};
 ghost use lib.ListN.{length};
 ghost use Rattle.words.specs.View.{as-pointer};
-ghost use Rattle.segments.specs.Translation.{as-dbr, descriptor-answer, translated};
+ghost use Rattle.segments.specs.Translation.{as-dbr, descriptor-answer, word-answer, passed-unless, translated};
 use words::descriptor::Descriptor;
 use words::pointer::Pointer;
 
@@ -40,6 +40,20 @@ pub fn descriptor_answer(d: Descriptor, words: usize) -> u8
     0
 }
 
+// 12 to 15 of a descriptor, wherever it was found.
+pub fn judge(d: Descriptor, words: usize, p: Pointer) -> Translated
+    ensures { λ x. ⌜ x ≡ passed-unless (word-answer words (d .0) (p .word .0)) d ⌝ }
+{
+    let n = descriptor_answer(d, words);
+    if n != 0 {
+        return Translated::Refused(n);
+    }
+    if words::descriptor::length_of(d) <= p.word.0 {
+        return Translated::Refused(15);
+    }
+    Translated::Passed(d)
+}
+
 pub fn translate(dbr: Dbr, memory: &[u64], p: Pointer) -> Translated
     requires { ⌜ dbr .address + dbr .length ≤ length (now memory) ⌝ }
     ensures { λ x. ⌜ translated (as-dbr dbr) (now (memory .entry)) (as-pointer p) x ⌝ }
@@ -50,12 +64,5 @@ pub fn translate(dbr: Dbr, memory: &[u64], p: Pointer) -> Translated
     }
     let at = dbr.address as usize + segment as usize;
     let d = Descriptor(memory[at]);
-    let n = descriptor_answer(d, memory.len());
-    if n != 0 {
-        return Translated::Refused(n);
-    }
-    if words::descriptor::length_of(d) <= p.word.0 {
-        return Translated::Refused(15);
-    }
-    Translated::Passed(d)
+    judge(d, memory.len(), p)
 }

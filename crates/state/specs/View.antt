@@ -5,7 +5,8 @@ use Prim.Native.Nat.{ℕ, zero, suc, _+_, _%_, _≤_}
 use lib.ListN.{length, getD, drop}
 use Rattle.model.specs.Words as Words
 use Rattle.model.specs.Registers as Registers
-use Rattle.model.specs.Program.{Program, Outcome, faults, completes, halts, execute}
+use Rattle.model.specs.Questions.{Question}
+use Rattle.model.specs.Program.{Program, fail, Outcome, faults, completes, halts, execute}
 use Rattle.words.specs.View.{as-pointer}
 use Rattle.words.specs.declared.descriptor.Descriptor.{Descriptor}
 use Rattle.words.specs.declared.pointer.Pointer.{Pointer}
@@ -14,7 +15,11 @@ use Rattle.state.specs.declared.Delivery.{Delivery}
 use Rattle.state.specs.declared.End.{End}
 use Rattle.state.specs.declared.End.the-variants.{Completed, Halted, Faulted}
 use Rattle.state.specs.declared.After.{After}
-use Rattle.segments.specs.Translation.{as-dbr, Code-right}
+use Rattle.segments.specs.Translation.{as-dbr, Segment-right, Code-right}
+use Rattle.segments.specs.declared.translate.Translated.{Translated}
+use Rattle.segments.specs.declared.translate.Translated.the-variants.{Refused, Passed}
+use Rattle.segments.specs.declared.access.Accessed.{Accessed}
+use Rattle.segments.specs.declared.access.Accessed.the-variants as Accessed
 
 -- THE PRS are lent as 24 numbers: the lower byte of the first is RING, SEGNO and WORDNO follow
 unfoldable pub pointers-in : (count : ℕ) → (numbers : List ℕ) → List Words.Pointer
@@ -86,3 +91,30 @@ pub record Finishes-with-any-prs (c : Core) (code : Descriptor) (f : Registers.R
 
 abbrev pub faulted-after : Core → Descriptor → (number : ℕ) → Pointer → After
 faulted-after c d n t = record { core = c; code = d; end = Faulted n t }
+
+-- THE REST OF A PROGRAM, once its read, its look or its write is answered, wherever the descriptor was found (02, L7)
+unfoldable pub worded-by : Accessed → Words.Pointer → (Words.Descriptor → (word : ℕ) → Program) → Program
+worded-by (Accessed.Refused n) t f = fail n t
+worded-by (Accessed.Word d w) t f = f (Words.descriptor-in (d .0)) w
+
+unfoldable pub passed-by : Translated → Words.Pointer → (Words.Descriptor → Program) → Program
+passed-by (Refused n) t f = fail n t
+passed-by (Passed d) t f = f (Words.descriptor-in (d .0))
+
+-- the answer to it after a read, in any memory and with any PRs, which it leaves alone
+pub record Does-after-read (c : Core) (code : Descriptor) (t : Words.Pointer) (y : Accessed) (f : Registers.Registers → Words.Descriptor → (word : ℕ) → Program) (x : After) : Type 0 where
+  pub does : (ps : List Words.Pointer) (m : List ℕ) → Does c code ps m (worded-by y t (f (registers-with c ps))) x ps m
+
+-- the answer to a rest that uses no memory, in any; a code descriptor that was right is right again where `right` holds of the memory's size
+pub record Does-in-any-memory (c : Core) (code : Descriptor) (ps : List Words.Pointer) (p : Program) (right : (size : ℕ) → Type 0) (x : After) (ps-now : List Words.Pointer) : Type 0 where
+  pub ends : (m : List ℕ) → ended (machine-with c ps m) (execute (machine-with c ps m) p) (x .end) (machine-with (x .core) ps-now m)
+  pub code-kept : (size : ℕ) → right size → Code-right (code .0) (c .ipr .ring) size → Code-right (x .code .0) (x .core .ipr .ring) size
+
+-- after a look by q: where the descriptor has passed its questions
+abbrev pub Does-after-look : Core → Descriptor → (prs : List Words.Pointer) → Question → Words.Pointer → Translated → (Words.Descriptor → Program) → After → (prs-now : List Words.Pointer) → Type 0
+Does-after-look c code ps q t y f x ps-now = Does-in-any-memory c code ps (passed-by y t f) (Segment-right y q) x ps-now
+
+-- after a write that ends a step: a no is the fault's number
+pub record Does-after-write (c : Core) (code : Descriptor) (t : Pointer) (answer : ℕ) (x : After) : Type 0 where
+  pub refused : (answer ≡ 0 → ⊥) → x ≡ faulted-after c code answer t
+  pub written : answer ≡ 0 → Completes c code x

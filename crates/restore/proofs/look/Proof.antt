@@ -1,39 +1,17 @@
 -- `look` meets its contract. Assumes nothing.
-use Rattle.segments.proofs.UseLaws.{looks}
-use Rattle.restore.proofs.TakeLaws.{passed-inside}
+use Rattle.segments.proofs.UseLaws.{look-asked, translated-holds}
 use borrow.Author.Needs.{needs}
 use Rattle.restore.proofs.look.Statement.{statement}
 use Rattle.restore.proofs.look.Tie as tie
 
 translate-requires : tie.Need-translate-requires
-translate-requires c κs = search (needs, looks, passed-inside)
+translate-requires c κs = search needs
 
-enum-known-n : tie.Need-enum-known-n
-enum-known-n c = search (needs, looks, passed-inside)
-
-enum-known-d : tie.Need-enum-known-d
-enum-known-d c = search (needs, looks, passed-inside)
-
-part-answer-requires : tie.Need-part-answer-requires
-part-answer-requires c κs = search (needs, looks, passed-inside)
+ask-requires : tie.Need-ask-requires
+ask-requires c κs = translated-holds _ _ _ _ (c .translate .ensures)
 
 returns : tie.Need-returns
-returns c = search (needs, looks, passed-inside)
-
-returns-2 : tie.Need-returns-2
-returns-2 c = search (needs, looks, passed-inside)
-
-returns-3 : tie.Need-returns-3
-returns-3 c = search (needs, looks, passed-inside)
+returns c = look-asked _ _ _ _ _ _ (c .before .translate .ensures) (c .ask .ensures)
 
 pub look-spec : {M : Type 1} → statement M
-look-spec =
-    tie.close
-    (tie.spec
-    translate-requires
-    enum-known-n
-    enum-known-d
-    part-answer-requires
-    returns
-    returns-2
-    returns-3)
+look-spec = tie.close (tie.spec translate-requires ask-requires returns)

@@ -1,30 +1,23 @@
 -- `access::store` meets its contract. Assumes nothing.
+use mathlib.Core.Path.{refl}
+use Rattle.model.specs.Step as Step
+use Rattle.state.proofs.DoesLaws.{write-answered}
 use borrow.Author.Needs.{needs}
-use Rattle.operations.proofs.AccessLaws.{writes}
 use Rattle.operations.proofs.access.store.Statement.{statement}
 use Rattle.operations.proofs.access.store.Tie as tie
 
 write-requires : tie.Need-write-requires
-write-requires c κs = search (needs, writes)
+write-requires c κs = search needs
 
-faulted-requires : tie.Need-faulted-requires
-faulted-requires c κs = search (needs, writes)
+stored-requires : tie.Need-stored-requires
+stored-requires c κs = search needs
 
 same-length : tie.Need-same-length
-same-length c = search (needs, writes)
+same-length c = search needs
 
 returns : tie.Need-returns
-returns c = search (needs, writes, c .faulted .ensures, c .before .before .before .before .write .ensures)
-
-completed-requires : tie.Need-completed-requires
-completed-requires c κs = search (needs, writes)
-
-same-length-2 : tie.Need-same-length-2
-same-length-2 c = search (needs, writes)
-
-returns-2 : tie.Need-returns-2
-returns-2 c = search (needs, writes, c .completed .ensures, c .before .before .before .before .write .ensures)
+unfolding Step.store
+returns c = write-answered _ _ _ _ _ _ _ _ (c .before .before .before .write .ensures) _ _ refl (c .stored .ensures)
 
 pub store-spec : {M : Type 1} → statement M
-store-spec =
-    tie.close (tie.spec write-requires faulted-requires same-length returns completed-requires same-length-2 returns-2)
+store-spec = tie.close (tie.spec write-requires stored-requires same-length returns)

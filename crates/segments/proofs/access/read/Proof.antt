@@ -7,21 +7,11 @@ use Rattle.segments.proofs.access.read.Tie as tie
 look-requires : tie.Need-look-requires
 look-requires c κs = search (needs, accesses)
 
-enum-known-n : tie.Need-enum-known-n
-enum-known-n c = search (needs, accesses)
-
-enum-known-d : tie.Need-enum-known-d
-enum-known-d c = search (needs, accesses)
-
-read-requires : tie.Need-read-requires
-read-requires c κs = search (needs, accesses)
+word-by-requires : tie.Need-word-by-requires
+word-by-requires c κs = search (needs, accesses)
 
 returns : tie.Need-returns
 returns c = search (needs, accesses)
 
-returns-2 : tie.Need-returns-2
-returns-2 c = search (needs, accesses)
-
 pub read-spec : {M : Type 1} → statement M
-read-spec =
-    tie.close (tie.spec look-requires enum-known-n enum-known-d read-requires returns returns-2)
+read-spec = tie.close (tie.spec look-requires word-by-requires returns)

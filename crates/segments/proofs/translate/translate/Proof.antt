@@ -1,6 +1,7 @@
 -- `translate::translate` meets its contract. Assumes nothing.
+use mathlib.Core.Path.{refl}
 use borrow.Author.Needs.{needs}
-use Rattle.segments.proofs.TranslateLaws.{translations}
+use Rattle.segments.proofs.TranslateLaws.{law-judged, translations}
 use Rattle.segments.proofs.translate.translate.Statement.{statement}
 use Rattle.segments.proofs.translate.translate.Tie as tie
 use Rattle.segments.specs.Translation.{descriptor-word}
@@ -12,29 +13,18 @@ returns c = search (needs, translations)
 add-at : tie.Need-add-at
 add-at c = search (needs, translations)
 
-mul-if3 : tie.Need-mul-if3
-mul-if3 c = search (needs, translations)
+mul-t8 : tie.Need-mul-t8
+mul-t8 c = search (needs, translations)
 
-shared-slice-read-if3 : tie.Need-shared-slice-read-if3
-shared-slice-read-if3 c = search (needs, translations)
+shared-slice-read-t11 : tie.Need-shared-slice-read-t11
+shared-slice-read-t11 c = search (needs, translations)
 
-descriptor-answer-requires : tie.Need-descriptor-answer-requires
-descriptor-answer-requires c κs = search (needs, translations)
+judge-requires : tie.Need-judge-requires
+judge-requires c κs = search (needs, translations)
 
 returns-2 : tie.Need-returns-2
 unfolding descriptor-word
-returns-2 c = search (needs, translations)
-
-length-of-requires : tie.Need-length-of-requires
-length-of-requires c κs = search (needs, translations)
-
-returns-3 : tie.Need-returns-3
-unfolding descriptor-word
-returns-3 c = search (needs, translations)
-
-returns-4 : tie.Need-returns-4
-unfolding descriptor-word
-returns-4 c = search (needs, translations)
+returns-2 c = law-judged _ _ _ _ (search needs) refl _ (c .judge .ensures)
 
 pub translate-spec : {M : Type 1} → statement M
 translate-spec =
@@ -42,10 +32,7 @@ translate-spec =
     (tie.spec
     returns
     add-at
-    mul-if3
-    shared-slice-read-if3
-    descriptor-answer-requires
-    returns-2
-    length-of-requires
-    returns-3
-    returns-4)
+    mul-t8
+    shared-slice-read-t11
+    judge-requires
+    returns-2)

@@ -1,0 +1,40 @@
+-- `returned` meets its contract. Assumes nothing.
+use mathlib.Core.Path.{refl}
+use Rattle.state.proofs.DoesLaws.{after-look-refused}
+use Rattle.control.proofs.MoveLaws.{return-enters}
+use borrow.Author.Needs.{needs}
+use Rattle.control.proofs.returned.Statement.{statement}
+use Rattle.control.proofs.returned.Tie as tie
+
+enum-known-x : tie.Need-enum-known-x
+enum-known-x c = search needs
+
+faulted-requires : tie.Need-faulted-requires
+faulted-requires c κs = search needs
+
+enum-known-x-2 : tie.Need-enum-known-x-2
+enum-known-x-2 c = search needs
+
+raise-rings-requires : tie.Need-raise-rings-requires
+raise-rings-requires c κs = search needs
+
+entered-requires : tie.Need-entered-requires
+entered-requires c κs = search needs
+
+returns : tie.Need-returns
+returns c = after-look-refused _ _ _ _ _ _ _ _ _ _ (c .before .before .x .given .1) (c .faulted .ensures) refl
+
+returns-2 : tie.Need-returns-2
+returns-2 c = return-enters _ _ _ _ _ _ _ (c .before .before .before .before .x2 .given .1) _ (c .entered .ensures) refl _ (c .before .raise-rings .ensures)
+
+pub returned-spec : {M : Type 1} → statement M
+returned-spec =
+    tie.close
+    (tie.spec
+    enum-known-x
+    faulted-requires
+    enum-known-x-2
+    raise-rings-requires
+    entered-requires
+    returns
+    returns-2)
