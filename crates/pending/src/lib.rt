@@ -1,0 +1,450 @@
+// A step turned inside out (02, L7): it stops wherever it asks for a segment's descriptor, and goes on with the one that was found. What an
+// opcode does with it is the plain processor's.
+use lookup::Search;
+use opcodes::arithmetic::add;
+use opcodes::arithmetic::is_taken;
+use questions::Use;
+use restore::Settled;
+use segments::access::Accessed;
+use segments::access::ask;
+use segments::access::word_by;
+use segments::access::write_by;
+use segments::translate::Dbr;
+use segments::translate::Translated;
+use segments::translate::judge;
+use state::After;
+use state::Core;
+use state::Delivery;
+use state::End;
+use state::reply::Reply;
+use words::descriptor::Descriptor;
+use words::instruction::opcode;
+use words::pointer::Pointer;
+use words::pointer::SegmentNumber;
+use words::pointer::WordNumber;
+
+// The use that asks for a descriptor.
+pub enum Place {
+    // the instruction at IPR
+    Fetch,
+    // a pointer word of this instruction, of which so many may still be read, there
+    Pointer(u64, u64, Pointer),
+    // the operand of this instruction, there
+    Operand(u64, Pointer),
+    // AOS's write of this word, there
+    Update(u64, Pointer),
+    // a fault with its number and pointer: the save segment
+    Save(u8, Pointer),
+}
+
+// What is left of a run: the use that asks, and for which segment; or its reply. `clears`: the step that was just completed makes every
+// record invalid. `word`: the descriptor that was found last. `read`: the pointer words of this step so far.
+pub struct Pending {
+    pub core: Core,
+    pub place: Place,
+    pub reply: Reply,
+    pub read: u64,
+    pub count: u32,
+    pub total: u64,
+    pub word: u64,
+    pub segment: u16,
+    pub asks: bool,
+    pub clears: bool,
+}
+
+// How far a run is: its completed steps, their pointer words, and those of this step.
+pub struct Far {
+    pub count: u32,
+    pub total: u64,
+    pub read: u64,
+}
+
+fn ended(core: Core, far: Far, reply: Reply) -> Pending {
+    Pending {
+        core,
+        place: Place::Fetch,
+        reply,
+        read: far.read,
+        count: far.count,
+        total: far.total,
+        word: 0,
+        segment: 0,
+        asks: false,
+        clears: false,
+    }
+}
+
+fn asking(core: Core, far: Far, place: Place, segment: u64) -> Pending {
+    Pending {
+        core,
+        place,
+        reply: Reply::Spent(far.count),
+        read: far.read,
+        count: far.count,
+        total: far.total,
+        word: 0,
+        segment: (segment % 65536) as u16,
+        asks: true,
+        clears: false,
+    }
+}
+
+// A fault: it ends the run, unless there is a save segment to ask for.
+fn failing(delivery: Delivery, core: Core, far: Far, n: u8, t: Pointer) -> Pending {
+    let save = delivery.save as u64;
+    if (delivery.switch != 1) | (core.dbr.length <= save) {
+        return ended(core, far, Reply::Fault(n, far.count, t));
+    }
+    asking(core, far, Place::Save(n, t), save)
+}
+
+// A use of a segment: 11, then its descriptor.
+fn using(delivery: Delivery, core: Core, far: Far, place: Place, t: Pointer) -> Pending {
+    let segment = t.segment.0;
+    if core.dbr.length <= segment {
+        return failing(delivery, core, far, 11, t);
+    }
+    asking(core, far, place, segment)
+}
+
+// The next step of a run, or its end.
+pub fn begin(delivery: Delivery, core: Core, count: u32, total: u64, budget: u32) -> Pending {
+    let far = Far {
+        count,
+        total,
+        read: 0,
+    };
+    if budget <= count {
+        return ended(core, far, Reply::Spent(count));
+    }
+    let ipr = core.ipr;
+    using(delivery, core, far, Place::Fetch, ipr)
+}
+
+fn completed(delivery: Delivery, core: Core, far: Far, budget: u32, clears: bool) -> Pending {
+    let mut x = begin(
+        delivery,
+        core,
+        far.count + 1,
+        far.total + far.read,
+        budget,
+    );
+    x.clears = clears;
+    x
+}
+
+// How a step ends; `clears` is of a completed one alone.
+fn going_on(delivery: Delivery, core: Core, end: End, far: Far, budget: u32, clears: bool) -> Pending {
+    match end {
+        End::Completed => completed(delivery, core, far, budget, clears),
+        End::Halted => ended(
+            core,
+            Far {
+                count: far.count + 1,
+                total: far.total + far.read,
+                read: 0,
+            },
+            Reply::Halted(far.count + 1),
+        ),
+        End::Faulted(n, p) => failing(delivery, core, far, n, p),
+    }
+}
+
+fn after(delivery: Delivery, y: After, far: Far, budget: u32, clears: bool) -> Pending {
+    let core = y.core;
+    let end = y.end;
+    going_on(delivery, core, end, far, budget, clears)
+}
+
+// The descriptors that a leaf hands on for the plain processor's next fetch; here they aren't used.
+fn none() -> Descriptor {
+    Descriptor(0)
+}
+
+// Does one of so many words from an address on describe a segment?
+fn is_described(dbr: Dbr, address: u64, words: u64) -> bool {
+    (address < dbr.address + dbr.length) & (dbr.address < address + words)
+}
+
+// An instruction that is formed: its operand's segment is used, or it has none to use.
+fn performing(
+    delivery: Delivery,
+    core: Core,
+    prs: &mut [u16; 24],
+    far: Far,
+    budget: u32,
+    w: u64,
+    t: Pointer,
+) -> Pending {
+    let ipr = core.ipr;
+    let number = opcode(w);
+    match number {
+        1 | 2 | 3 | 4 | 5 | 6 | 7 | 8 | 9 | 17 | 32 | 33 | 40 | 42 => using(delivery, core, far, Place::Operand(w, t), t),
+        10 => after(
+            delivery,
+            operations::registers::load_literal(core, none(), w),
+            far,
+            budget,
+            false,
+        ),
+        16 => after(
+            delivery,
+            operations::registers::load_pointer(core, none(), prs, w, t),
+            far,
+            budget,
+            false,
+        ),
+        24 | 25 | 26 => {
+            if is_taken(number, core.a) {
+                return using(delivery, core, far, Place::Operand(w, t), t);
+            }
+            after(
+                delivery,
+                state::completed(core, none()),
+                far,
+                budget,
+                false,
+            )
+        }
+        41 => after(
+            delivery,
+            dispatch::halt(core, none()),
+            far,
+            budget,
+            false,
+        ),
+        _ => failing(delivery, core, far, 32, ipr),
+    }
+}
+
+// The instruction at IPR: 33, and its first pointer word or what it does.
+fn fetched(
+    delivery: Delivery,
+    core: Core,
+    prs: &mut [u16; 24],
+    memory: &[u64],
+    far: Far,
+    budget: u32,
+    d: Descriptor,
+) -> Pending {
+    let ipr = core.ipr;
+    let x = ask(Use::Fetch, judge(d, memory.len(), ipr), ipr, ipr);
+    match word_by(x, memory, ipr) {
+        Accessed::Refused(n) => failing(delivery, core, far, n, ipr),
+        Accessed::Word(_d, w) => {
+            let entry = opcodes::table::entry_of(opcode(w));
+            if entry.privileged & (ipr.ring != 0) {
+                return failing(delivery, core, far, 33, ipr);
+            }
+            let first = addressing::first_address(core, prs, w);
+            if entry.operand & words::instruction::is_indirect(w) {
+                return using(delivery, core, far, Place::Pointer(w, 64, first), first);
+            }
+            performing(delivery, core, prs, far, budget, w, first)
+        }
+    }
+}
+
+// A pointer word: the next one, 31, or what the instruction does.
+fn pointed(
+    delivery: Delivery,
+    core: Core,
+    prs: &mut [u16; 24],
+    memory: &[u64],
+    far: Far,
+    budget: u32,
+    d: Descriptor,
+    w: u64,
+    left: u64,
+    t: Pointer,
+) -> Pending {
+    let x = ask(Use::Read, judge(d, memory.len(), t), t, t);
+    match word_by(x, memory, t) {
+        Accessed::Refused(n) => failing(delivery, core, far, n, t),
+        Accessed::Word(e, v) => {
+            let next = addressing::tpr(v, addressing::next_ring(t, e, v));
+            let more = Far {
+                count: far.count,
+                total: far.total,
+                read: far.read + 1,
+            };
+            if !words::pointer::is_indirect(v) {
+                return performing(delivery, core, prs, more, budget, w, next);
+            }
+            if left <= 1 {
+                return failing(delivery, core, more, 31, next);
+            }
+            using(delivery, core, more, Place::Pointer(w, left - 1, next), next)
+        }
+    }
+}
+
+// A store at the operand, which clears where the word describes a segment.
+fn storing(
+    delivery: Delivery,
+    core: Core,
+    memory: &mut [u64],
+    far: Far,
+    budget: u32,
+    d: Descriptor,
+    t: Pointer,
+    value: u64,
+) -> Pending {
+    let dbr = core.dbr;
+    let clears = is_described(dbr, words::descriptor::address_of(d) + t.word.0, 1);
+    let x = ask(Use::Write, judge(d, memory.len(), t), t, t);
+    let n = write_by(x, memory, t, value);
+    after(
+        delivery,
+        operations::access::stored(core, none(), t, n),
+        far,
+        budget,
+        clears,
+    )
+}
+
+// AOS's word, and then its write.
+fn updating(delivery: Delivery, core: Core, memory: &[u64], far: Far, x: Translated, t: Pointer) -> Pending {
+    match word_by(x, memory, t) {
+        Accessed::Refused(n) => failing(delivery, core, far, n, t),
+        Accessed::Word(_d, v) => using(delivery, core, far, Place::Update(add(v, 1), t), t),
+    }
+}
+
+// RCU.
+fn restoring(
+    delivery: Delivery,
+    core: Core,
+    prs: &mut [u16; 24],
+    memory: &[u64],
+    far: Far,
+    budget: u32,
+    x: Translated,
+    t: Pointer,
+) -> Pending {
+    let y = restore::restored(core, prs, memory, t, restore::ask(x, t));
+    let after = y.core;
+    let end = y.end;
+    going_on(delivery, after, end, far, budget, true)
+}
+
+// What the instruction does at its operand.
+fn operated(
+    delivery: Delivery,
+    core: Core,
+    prs: &mut [u16; 24],
+    memory: &mut [u64],
+    far: Far,
+    budget: u32,
+    d: Descriptor,
+    w: u64,
+    t: Pointer,
+) -> Pending {
+    let ipr = core.ipr;
+    let a = core.a;
+    let number = opcode(w);
+    let x = judge(d, memory.len(), t);
+    match number {
+        2 => storing(delivery, core, memory, far, budget, d, t, a),
+        9 => updating(delivery, core, memory, far, ask(Use::Read, x, t, t), t),
+        17 => {
+            let value = operations::registers::stored_pointer(prs, w);
+            storing(delivery, core, memory, far, budget, d, t, value)
+        }
+        24 | 25 | 26 => {
+            let y = control::moved_to(core, none(), t, ask(Use::Transfer, x, ipr, t));
+            after(delivery, y, far, budget, false)
+        }
+        32 => {
+            let y = control::called(core, none(), prs, t, control::ring_by(t, ask(Use::Call, x, ipr, t)));
+            after(delivery, y, far, budget, false)
+        }
+        33 => {
+            let y = control::returned(core, none(), prs, t, ask(Use::Return, x, t, t));
+            after(delivery, y, far, budget, false)
+        }
+        40 => {
+            let z = word_by(ask(Use::Read, x, t, t), memory, t);
+            let y = operations::access::dbr_loaded(core, none(), memory.len(), t, z);
+            after(delivery, y, far, budget, true)
+        }
+        42 => restoring(delivery, core, prs, memory, far, budget, x, t),
+        _ => {
+            let z = word_by(ask(Use::Read, x, t, t), memory, t);
+            let y = operations::access::loaded(core, none(), number, t, z);
+            after(delivery, y, far, budget, false)
+        }
+    }
+}
+
+// The save segment of a fault: 12 to 15 of a thirteenth word and W. 23 is asked for ring 0, which is in every write bracket.
+fn saved(
+    delivery: Delivery,
+    core: Core,
+    prs: &[u16; 24],
+    memory: &mut [u64],
+    far: Far,
+    budget: u32,
+    d: Descriptor,
+    n: u8,
+    t: Pointer,
+) -> Pending {
+    let dbr = core.dbr;
+    let last = Pointer {
+        ring: 0,
+        segment: SegmentNumber(delivery.save as u64),
+        word: WordNumber(12),
+    };
+    match ask(Use::Write, judge(d, memory.len(), last), last, last) {
+        Translated::Refused(_n) => ended(core, far, Reply::Fault(n, far.count, t)),
+        Translated::Passed(e) => {
+            let start = words::descriptor::address_of(e);
+            frames::write_frame(core, prs, memory, start as usize, n, t);
+            completed(
+                delivery,
+                settle::handled(delivery, core),
+                far,
+                budget,
+                is_described(dbr, start, 13),
+            )
+        }
+    }
+}
+
+// The descriptor's word: the record's, or else memory's, which is read only then.
+fn word_of(s: Search, dbr: Dbr, memory: &[u64]) -> u64 {
+    if s.hit {
+        return s.word;
+    }
+    let at = dbr.address as usize + s.segment as usize;
+    memory[at]
+}
+
+// The run goes on until it asks again or ends, given what was found for the segment that it asked for.
+pub fn answer(
+    x: Pending,
+    s: Search,
+    delivery: Delivery,
+    budget: u32,
+    prs: &mut [u16; 24],
+    memory: &mut [u64],
+) -> Pending {
+    let core = x.core;
+    let word = word_of(s, core.dbr, memory);
+    let d = Descriptor(word);
+    let far = Far {
+        count: x.count,
+        total: x.total,
+        read: x.read,
+    };
+    let place = x.place;
+    let mut y = match place {
+        Place::Fetch => fetched(delivery, core, prs, memory, far, budget, d),
+        Place::Pointer(w, left, t) => pointed(delivery, core, prs, memory, far, budget, d, w, left, t),
+        Place::Operand(w, t) => operated(delivery, core, prs, memory, far, budget, d, w, t),
+        Place::Update(value, t) => storing(delivery, core, memory, far, budget, d, t, value),
+        Place::Save(n, t) => saved(delivery, core, prs, memory, far, budget, d, n, t),
+    };
+    y.word = word;
+    y
+}
