@@ -1,5 +1,9 @@
 // A step turned inside out (02, L7): it stops wherever it asks for a segment's descriptor, and goes on with the one that was found. What an
 // opcode does with it is the plain processor's.
+ghost use mathlib.Core.Path.{_≡_};
+ghost use Prim.Native.Nat.{_*_, _%_, _<_, _≤_};
+ghost use Rattle.state.specs.declared.End.the-variants.{Completed};
+ghost use Rattle.pending.specs.Left.{ended-with, asking-at, Fails, Goes-by-use, Begins, Goes-on};
 use lookup::Search;
 use opcodes::arithmetic::add;
 use opcodes::arithmetic::is_taken;
@@ -59,7 +63,9 @@ pub struct Far {
     pub read: u64,
 }
 
-fn ended(core: Core, far: Far, reply: Reply) -> Pending {
+fn ended(core: Core, far: Far, reply: Reply) -> Pending
+    ensures { λ x. ⌜ x ≡ ended-with core far reply ⌝ }
+{
     Pending {
         core,
         place: Place::Fetch,
@@ -74,7 +80,9 @@ fn ended(core: Core, far: Far, reply: Reply) -> Pending {
     }
 }
 
-fn asking(core: Core, far: Far, place: Place, segment: u64) -> Pending {
+fn asking(core: Core, far: Far, place: Place, segment: u64) -> Pending
+    ensures { λ x. ⌜ x ≡ asking-at core far place (segment % 65536) ⌝ }
+{
     Pending {
         core,
         place,
@@ -90,16 +98,23 @@ fn asking(core: Core, far: Far, place: Place, segment: u64) -> Pending {
 }
 
 // A fault: it ends the run, unless there is a save segment to ask for.
-fn failing(delivery: Delivery, core: Core, far: Far, n: u8, t: Pointer) -> Pending {
+fn failing(delivery: Delivery, core: Core, far: Far, n: u8, t: Pointer) -> Pending
+    ensures { λ x. ⌜ Fails delivery core far n t x ⌝ }
+{
     let save = delivery.save as u64;
-    if (delivery.switch != 1) | (core.dbr.length <= save) {
+    if delivery.switch != 1 {
+        return ended(core, far, Reply::Fault(n, far.count, t));
+    }
+    if core.dbr.length <= save {
         return ended(core, far, Reply::Fault(n, far.count, t));
     }
     asking(core, far, Place::Save(n, t), save)
 }
 
 // A use of a segment: 11, then its descriptor.
-fn using(delivery: Delivery, core: Core, far: Far, place: Place, t: Pointer) -> Pending {
+fn using(delivery: Delivery, core: Core, far: Far, place: Place, t: Pointer) -> Pending
+    ensures { λ x. ⌜ Goes-by-use delivery core far place t x ⌝ }
+{
     let segment = t.segment.0;
     if core.dbr.length <= segment {
         return failing(delivery, core, far, 11, t);
@@ -108,7 +123,9 @@ fn using(delivery: Delivery, core: Core, far: Far, place: Place, t: Pointer) -> 
 }
 
 // The next step of a run, or its end.
-pub fn begin(delivery: Delivery, core: Core, count: u32, total: u64, budget: u32) -> Pending {
+pub fn begin(delivery: Delivery, core: Core, count: u32, total: u64, budget: u32) -> Pending
+    ensures { λ x. ⌜ Begins delivery core count total budget x ⌝ }
+{
     let far = Far {
         count,
         total,
@@ -121,20 +138,27 @@ pub fn begin(delivery: Delivery, core: Core, count: u32, total: u64, budget: u32
     using(delivery, core, far, Place::Fetch, ipr)
 }
 
-fn completed(delivery: Delivery, core: Core, far: Far, budget: u32, clears: bool) -> Pending {
-    let mut x = begin(
-        delivery,
-        core,
-        far.count + 1,
-        far.total + far.read,
-        budget,
-    );
+fn completed(delivery: Delivery, core: Core, far: Far, budget: u32, clears: bool) -> Pending
+    requires { ⌜ (far .count < budget) × (far .total ≤ 64 * far .count) × (far .read ≤ 64) ⌝ }
+    ensures { λ x. ⌜ Goes-on delivery budget core far clears Completed x ⌝ }
+{
+    let mut x = begin(delivery, core, far.count + 1, far.total + far.read, budget);
     x.clears = clears;
     x
 }
 
 // How a step ends; `clears` is of a completed one alone.
-fn going_on(delivery: Delivery, core: Core, end: End, far: Far, budget: u32, clears: bool) -> Pending {
+fn going_on(
+    delivery: Delivery,
+    core: Core,
+    end: End,
+    far: Far,
+    budget: u32,
+    clears: bool,
+) -> Pending
+    requires { ⌜ (far .count < budget) × (far .total ≤ 64 * far .count) × (far .read ≤ 64) ⌝ }
+    ensures { λ x. ⌜ Goes-on delivery budget core far clears end x ⌝ }
+{
     match end {
         End::Completed => completed(delivery, core, far, budget, clears),
         End::Halted => ended(
@@ -150,7 +174,10 @@ fn going_on(delivery: Delivery, core: Core, end: End, far: Far, budget: u32, cle
     }
 }
 
-fn after(delivery: Delivery, y: After, far: Far, budget: u32, clears: bool) -> Pending {
+fn after(delivery: Delivery, y: After, far: Far, budget: u32, clears: bool) -> Pending
+    requires { ⌜ (far .count < budget) × (far .total ≤ 64 * far .count) × (far .read ≤ 64) ⌝ }
+    ensures { λ x. ⌜ Goes-on delivery budget (y .core) far clears (y .end) x ⌝ }
+{
     let core = y.core;
     let end = y.end;
     going_on(delivery, core, end, far, budget, clears)

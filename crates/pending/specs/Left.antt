@@ -1,0 +1,164 @@
+-- What is left of a run whose step asks for a descriptor. Assumes nothing: these are definitions.
+use mathlib.Core.Path.{_≡_}
+use mathlib.Core.Bool.{Bool, true, false, cond}
+use mathlib.Core.List.{List}
+use mathlib.Core.Option.{Option, none, some}
+use Prim.Native.Nat.{ℕ, suc, _+_, _-_, _*_, _<_, _≤_}
+use lib.ListN.{length}
+use Rattle.model.specs.Words as Words
+use Rattle.model.specs.Words.{Instruction, instruction-in}
+use Rattle.model.specs.Registers as Registers
+use Rattle.model.specs.Registers.{advanced}
+use Rattle.model.specs.Opcodes.{Opcode, decoded}
+use Rattle.model.specs.Questions.{write-questions, start-questions}
+use Rattle.model.specs.Program.{Program, fail, finish, halt, look, read, tick, forget, write}
+use Rattle.model.specs.Run as Run
+use Rattle.model.specs.Step.{chain, perform, step-program}
+use Rattle.close.specs.Close.{Held, cleared, Ran-close, ran-close, run-close-from}
+use Rattle.close.specs.Rest.{rest}
+use Rattle.words.specs.View.{as-pointer, Pointer-within}
+use Rattle.words.specs.declared.pointer.Pointer.{Pointer}
+use Rattle.state.specs.View.{registers-with, machine-with, as-delivery}
+use Rattle.state.specs.Reply.{as-reply, Reply-within}
+use Rattle.state.specs.declared.Core.{Core}
+use Rattle.state.specs.declared.Delivery.{Delivery}
+use Rattle.state.specs.declared.End.{End}
+use Rattle.state.specs.declared.End.the-variants.{Completed, Halted, Faulted}
+use Rattle.state.specs.declared.reply.Reply.{Reply}
+use Rattle.state.specs.declared.reply.Reply.the-variants as Reply
+use Rattle.pending.specs.declared.Place.{Place}
+use Rattle.pending.specs.declared.Place.the-variants as Place
+use Rattle.pending.specs.declared.Pending.{Pending}
+use Rattle.pending.specs.declared.Far.{Far}
+
+-- AN INSTRUCTION THAT IS FORMED: 32, and what its opcode does at TPR
+unfoldable pub performed-by : (size : ℕ) → Registers.Registers → Instruction → Option Opcode → Words.Pointer → Program
+performed-by n r i none t = fail 32 (r .ipr)
+performed-by n r i (some o) t = perform n (o .access) i r t
+
+unfoldable pub performed : (size : ℕ) → Registers.Registers → (word : ℕ) → Words.Pointer → Program
+performed n r w t = performed-by n r (instruction-in w) (decoded (instruction-in w .opcode)) t
+
+-- WHAT IS LEFT OF THE STEP at a place
+unfoldable pub left-of : (size : ℕ) → Registers.Registers → Place → Program
+left-of n r Place.Fetch = step-program n r
+left-of n r (Place.Pointer w k t) = chain k true (as-pointer t) (performed n r w)
+left-of n r (Place.Operand w t) = performed n r w (as-pointer t)
+left-of n r (Place.Update w t) = write (write-questions (as-pointer t)) (as-pointer t) w (advanced r)
+left-of n r (Place.Save k t) = fail k (as-pointer t)
+
+-- and of the run
+abbrev pub rest-of : Delivery → (budget : ℕ) → Far → List Held → Registers.Machine → Program → Ran-close
+rest-of v b f hs m p = rest (as-delivery v) (b - suc (f .count)) (f .count) (f .total) (f .read) hs m p
+
+abbrev pub far-of : Pending → Far
+far-of x = record { count = x .count; total = x .total; read = x .read }
+
+unfoldable pub remaining : Delivery → (budget : ℕ) → Pending → List Held → (prs : List Words.Pointer) → (memory : List ℕ) → Ran-close
+remaining v b x hs ps m =
+    let k = machine-with (x .core) ps m in
+    cond (x .asks) (rest-of v b (far-of x) hs k (left-of (length m) (k .registers) (x .place))) (ran-close (as-reply (x .reply)) k hs (x .total))
+
+unfoldable pub cleared-if : Bool → List Held → List Held
+cleared-if c hs = cond c (cleared hs) hs
+
+-- does a program begin with a use of the segment at a pointer?
+unfoldable pub Uses : Words.Pointer → Program → Type 0
+Uses t (fail n u) = ⊥
+Uses t (finish r) = ⊥
+Uses t (halt r) = ⊥
+Uses t (look q u f) = u ≡ t
+Uses t (read q u f) = u ≡ t
+Uses t (tick p) = ⊥
+Uses t (forget p) = ⊥
+Uses t (write q u w r) = u ≡ t
+
+-- A POINTER THAT IS FORMED: in no lower ring than IPR's
+pub record Formed-at (r : Registers.Registers) (t : Pointer) (segment : ℕ) : Type 0 where
+  pub same : segment ≡ t .segment .0
+  pub within : Pointer-within t
+  pub ring-at-least : r .ipr .ring ≤ t .ring
+
+-- A PLACE THAT ASKS for a segment, once so many pointer words are read
+abbrev pub Asks-at : Delivery → (size : ℕ) → Registers.Registers → (read : ℕ) → Place → (segment : ℕ) → Type 0
+Asks-at v n r k Place.Fetch s = s ≡ r .ipr .segment
+Asks-at v n r k (Place.Pointer w l t) s = Formed-at r t s × (1 ≤ l) × (k + l ≤ 64)
+Asks-at v n r k (Place.Operand w t) s = Formed-at r t s × Uses (as-pointer t) (performed n r w (as-pointer t))
+Asks-at v n r k (Place.Update w t) s = Formed-at r t s
+Asks-at v n r k (Place.Save a t) s = (s ≡ v .save) × (v .switch ≡ 1) × Pointer-within t
+
+pub record Asks (v : Delivery) (b : ℕ) (x : Pending) (r : Registers.Registers) (size : ℕ) : Type 0 where
+  pub count-within : x .count < b
+  pub inside : x .segment < x .core .dbr .length
+  pub at : Asks-at v size r (x .read) (x .place) (x .segment)
+
+-- A RUN THAT WAITS, or has ended
+pub record Waits (v : Delivery) (b : ℕ) (x : Pending) (ps : List Words.Pointer) (m : List ℕ) : Type 0 where
+  pub passes : start-questions (as-delivery v) (machine-with (x .core) ps m) ≡ 0
+  pub total-within : x .total ≤ 64 * x .count
+  pub read-within : x .read ≤ 64
+  pub reply-within : Reply-within (x .reply)
+  pub asking : x .asks ≡ true → Asks v b x (registers-with (x .core) ps) (length m)
+
+-- THE ANSWER TO A PROGRAM: what was left of the run is left of it still, whatever the records are
+pub record Goes (v : Delivery) (b : ℕ) (f : Far) (m : Registers.Machine) (p : Program) (x : Pending) (ps-now : List Words.Pointer) (m-now : List ℕ) : Type 0 where
+  pub same : (hs : List Held) → rest-of v b f hs m p ≡ remaining v b x (cleared-if (x .clears) hs) ps-now m-now
+  pub waits : Waits v b x ps-now m-now
+
+-- where a step may be: it passes 1 to 4, is one of the budget's, and has counted so far
+pub record Under-way (v : Delivery) (b : ℕ) (f : Far) (m : Registers.Machine) : Type 0 where
+  pub passes : start-questions (as-delivery v) m ≡ 0
+  pub count-within : f .count < b
+  pub total-within : f .total ≤ 64 * f .count
+  pub read-within : f .read ≤ 64
+
+-- the answer with any PRs and memory where that holds, to a program of registers and size
+pub record Goes-if (v : Delivery) (c : Core) (f : Far) (Holds : (size : ℕ) → Registers.Registers → Type 0) (p : (size : ℕ) → Registers.Registers → Program) (x : Pending) : Type 0 where
+  pub clears-not : x .clears ≡ false
+  pub goes : (b : ℕ) (ps : List Words.Pointer) (m : List ℕ) → Under-way v b f (machine-with c ps m) → Holds (length m) (registers-with c ps) →
+      Goes v b f (machine-with c ps m) (p (length m) (registers-with c ps)) x ps m
+
+-- of a fault
+abbrev pub Fails : Delivery → Core → Far → (number : ℕ) → Pointer → Pending → Type 0
+Fails v c f n t x = Goes-if v c f (λ _ _. Pointer-within t) (λ _ _. fail n (as-pointer t)) x
+
+-- of a place that uses the segment at a pointer
+pub record Used-at (v : Delivery) (f : Far) (place : Place) (t : Pointer) (size : ℕ) (r : Registers.Registers) : Type 0 where
+  pub at : Asks-at v size r (f .read) place (t .segment .0)
+  pub within : Pointer-within t
+  pub uses : Uses (as-pointer t) (left-of size r place)
+
+abbrev pub Goes-by-use : Delivery → Core → Far → Place → Pointer → Pending → Type 0
+Goes-by-use v c f place t x = Goes-if v c f (Used-at v f place t) (λ n r. left-of n r place) x
+
+-- A STEP BEGINS, or the budget is spent
+pub record Begins (v : Delivery) (c : Core) (count total b : ℕ) (x : Pending) : Type 0 where
+  pub clears-not : x .clears ≡ false
+  pub same : (hs : List Held) (ps : List Words.Pointer) (m : List ℕ) → start-questions (as-delivery v) (machine-with c ps m) ≡ 0 → total ≤ 64 * count →
+      run-close-from (as-delivery v) (b - count) count total hs (machine-with c ps m) ≡ remaining v b x hs ps m
+  pub waits : (ps : List Words.Pointer) (m : List ℕ) → start-questions (as-delivery v) (machine-with c ps m) ≡ 0 → total ≤ 64 * count → Waits v b x ps m
+
+-- A STEP ENDS: what is left of the run then
+unfoldable pub after-end : Delivery → (budget : ℕ) → Far → (clears : Bool) → End → List Held → Registers.Machine → Ran-close
+after-end v b f c Completed hs m = run-close-from (as-delivery v) (b - suc (f .count)) (suc (f .count)) (f .total + f .read) (cleared-if c hs) m
+after-end v b f c Halted hs m = ran-close (Run.halted (suc (f .count))) m hs (f .total + f .read)
+after-end v b f c (Faulted n t) hs m = rest-of v b f hs m (fail n (as-pointer t))
+
+abbrev pub End-within : End → Type 0
+End-within Completed = Unit {0}
+End-within Halted = Unit {0}
+End-within (Faulted n t) = Pointer-within t
+
+pub record Goes-on (v : Delivery) (b : ℕ) (c : Core) (f : Far) (clears : Bool) (e : End) (x : Pending) : Type 0 where
+  pub same : (ps : List Words.Pointer) (m : List ℕ) → Under-way v b f (machine-with c ps m) → End-within e → (hs : List Held) →
+      after-end v b f clears e hs (machine-with c ps m) ≡ remaining v b x (cleared-if (x .clears) hs) ps m
+  pub waits : (ps : List Words.Pointer) (m : List ℕ) → Under-way v b f (machine-with c ps m) → End-within e → Waits v b x ps m
+
+-- WHAT IS ANSWERED at once
+abbrev pub ended-with : Core → Far → Reply → Pending
+ended-with c f y =
+    record { core = c; place = Place.Fetch; reply = y; read = f .read; count = f .count; total = f .total; word = 0; segment = 0; asks = false; clears = false }
+
+abbrev pub asking-at : Core → Far → Place → (segment : ℕ) → Pending
+asking-at c f place s =
+    record { core = c; place = place; reply = Reply.Spent (f .count); read = f .read; count = f .count; total = f .total; word = 0; segment = s; asks = true; clears = false }
