@@ -1,2 +1,9 @@
 -- Laws of this crate. Assumes nothing.
 pub mod GoesLaws
+pub mod QuietLaws
+pub mod AnswerLaws
+pub mod JudgeLaws
+pub mod StoreLaws
+pub mod WordLaws
+pub mod EndLaws
+pub mod ReadLaws

@@ -1,24 +1,29 @@
 -- What is left of a run whose step asks for a descriptor. Assumes nothing: these are definitions.
 use mathlib.Core.Path.{_≡_}
-use mathlib.Core.Bool.{Bool, true, false, cond}
+use mathlib.Core.Bool.{Bool, true, false, _&&_, cond}
 use mathlib.Core.List.{List}
 use mathlib.Core.Option.{Option, none, some}
 use Prim.Native.Nat.{ℕ, suc, _+_, _-_, _*_, _<_, _≤_}
+use lib.Dec.{ltb}
 use lib.ListN.{length}
 use Rattle.model.specs.Words as Words
 use Rattle.model.specs.Words.{Instruction, instruction-in}
 use Rattle.model.specs.Registers as Registers
 use Rattle.model.specs.Registers.{advanced}
 use Rattle.model.specs.Opcodes.{Opcode, decoded}
-use Rattle.model.specs.Questions.{write-questions, start-questions}
+use Rattle.model.specs.Questions.{Question, write-questions, start-questions}
 use Rattle.model.specs.Program.{Program, fail, finish, halt, look, read, tick, forget, write}
 use Rattle.model.specs.Run as Run
-use Rattle.model.specs.Step.{chain, perform, step-program}
-use Rattle.close.specs.Close.{Held, cleared, Ran-close, ran-close, run-close-from}
+use Rattle.model.specs.Step.{chain, if-dbr-fits, perform, step-program}
+use Rattle.close.specs.Close.{Held, cleared, each-once, Found, look-up, Ran-close, ran-close, run-close-from}
 use Rattle.close.specs.Rest.{rest}
 use Rattle.words.specs.View.{as-pointer, Pointer-within}
 use Rattle.words.specs.declared.pointer.Pointer.{Pointer}
-use Rattle.state.specs.View.{registers-with, machine-with, as-delivery}
+use Rattle.words.specs.declared.descriptor.Descriptor.{Descriptor}
+use Rattle.segments.specs.Translation.{word-answer, passed-unless, asked-of, answer-of, written-by}
+use Rattle.segments.specs.declared.translate.Translated.{Translated}
+use Rattle.state.specs.View.{registers-with, machine-with, as-delivery, Does-after-write}
+use Rattle.state.specs.declared.After.{After}
 use Rattle.state.specs.Reply.{as-reply, Reply-within}
 use Rattle.state.specs.declared.Core.{Core}
 use Rattle.state.specs.declared.Delivery.{Delivery}
@@ -162,3 +167,40 @@ ended-with c f y =
 abbrev pub asking-at : Core → Far → Place → (segment : ℕ) → Pending
 asking-at c f place s =
     record { core = c; place = place; reply = Reply.Spent (f .count); read = f .read; count = f .count; total = f .total; word = 0; segment = s; asks = true; clears = false }
+
+-- THE ANSWER ONCE THE DESCRIPTOR IS FOUND: what was left before the look-up is left after it, with the records that it left
+pub record Answers (v : Delivery) (b : ℕ) (f : Far) (m : Registers.Machine) (p : Program) (segment word : ℕ) (x : Pending) (ps-now : List Words.Pointer) (m-now : List ℕ) : Type 0 where
+  pub same : (hs : List Held) (y : Found) → look-up hs m segment ≡ y → y .word ≡ word → length hs ≡ 16 → each-once hs ≡ true →
+      rest-of v b f hs m p ≡ remaining v b x (cleared-if (x .clears) (y .records)) ps-now m-now
+  pub waits : Waits v b x ps-now m-now
+
+-- does one of so many words from an address on describe a segment?
+unfoldable pub is-described : Registers.Dbr → (address words : ℕ) → Bool
+is-described b a k = ltb a (b .address + b .length) && ltb (b .address) (a + k)
+
+-- 12 to 15 and the questions of a write, of a descriptor that was found, and the store
+abbrev pub judged-write : (size : ℕ) → Descriptor → Pointer → Translated
+judged-write n d t = asked-of (write-questions (as-pointer t)) (passed-unless (word-answer n (d .0) (t .word .0)) d)
+
+pub record Written (c : Core) (d : Descriptor) (t : Pointer) (value : ℕ) (m : List ℕ) (y : After) (m-now : List ℕ) : Type 0 where
+  pub after : Does-after-write c d t (answer-of (judged-write (length m) d t)) y
+  pub now : m-now ≡ written-by m (t .word .0) value (judged-write (length m) d t)
+
+-- A STORE that completes the step, by that descriptor's word
+abbrev pub stores : Registers.Registers → Pointer → (value : ℕ) → Program
+stores r t w = write (write-questions (as-pointer t)) (as-pointer t) w (advanced r)
+
+pub record Stores (v : Delivery) (b : ℕ) (c : Core) (f : Far) (word : ℕ) (t : Pointer) (value : ℕ) (m : List ℕ) (x : Pending) (m-now : List ℕ) : Type 0 where
+  pub answers : (ps : List Words.Pointer) → Under-way v b f (machine-with c ps m) → Pointer-within t → t .segment .0 < c .dbr .length →
+      Answers v b f (machine-with c ps m) (stores (registers-with c ps) t value) (t .segment .0) word x ps m-now
+
+-- A READ that is answered, and what is done with the word
+abbrev pub load-with : (result : (a word : ℕ) → ℕ) → Registers.Registers → Words.Descriptor → (word : ℕ) → Program
+load-with h r d w = finish (advanced (Registers.with-a (h (r .a) w) r))
+
+abbrev pub load-dbr-with : (size : ℕ) → Pointer → Registers.Registers → Words.Descriptor → (word : ℕ) → Program
+load-dbr-with n t r d w = if-dbr-fits n (Registers.dbr-in w) (as-pointer t) (forget (finish (advanced (Registers.with-dbr (Registers.dbr-in w) r))))
+
+pub record Answers-read (v : Delivery) (b : ℕ) (c : Core) (f : Far) (word : ℕ) (t : Pointer) (q : Question) (g : Registers.Registers → Words.Descriptor → (word : ℕ) → Program) (m : List ℕ) (x : Pending) : Type 0 where
+  pub answers : (ps : List Words.Pointer) → Under-way v b f (machine-with c ps m) → Pointer-within t → t .segment .0 < c .dbr .length →
+      Answers v b f (machine-with c ps m) (read q (as-pointer t) (g (registers-with c ps))) (t .segment .0) word x ps m

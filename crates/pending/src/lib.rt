@@ -1,9 +1,17 @@
 // A step turned inside out (02, L7): it stops wherever it asks for a segment's descriptor, and goes on with the one that was found. What an
 // opcode does with it is the plain processor's.
 ghost use mathlib.Core.Path.{_≡_};
-ghost use Prim.Native.Nat.{_*_, _%_, _<_, _≤_};
+ghost use Prim.Native.Nat.{_+_, _*_, _%_, _<_, _≤_};
 ghost use Rattle.state.specs.declared.End.the-variants.{Completed};
-ghost use Rattle.pending.specs.Left.{ended-with, asking-at, Fails, Goes-by-use, Begins, Goes-on};
+ghost use Rattle.pending.specs.Left.{ended-with, asking-at, Fails, Goes-by-use, Begins, Goes-on, is-described, Written, Stores, load-with, load-dbr-with, Answers-read};
+ghost use Rattle.model.specs.Questions.{read-questions};
+ghost use Rattle.opcodes.specs.Table.{result};
+ghost use Rattle.model.specs.Words.{descriptor-in};
+ghost use Rattle.words.specs.View.{as-pointer};
+ghost use Rattle.questions.specs.Use.{questions-of};
+ghost use Rattle.segments.specs.Translation.{as-dbr, word-answer, passed-unless, asked-of};
+ghost use mathlib.Core.Bool.{cond};
+ghost use lib.ListN.{length, getD};
 use lookup::Search;
 use opcodes::arithmetic::add;
 use opcodes::arithmetic::is_taken;
@@ -184,13 +192,111 @@ fn after(delivery: Delivery, y: After, far: Far, budget: u32, clears: bool) -> P
 }
 
 // The descriptors that a leaf hands on for the plain processor's next fetch; here they aren't used.
-fn none() -> Descriptor {
+fn none() -> Descriptor
+    ensures { λ d. ⌜ d .0 ≡ 0 ⌝ }
+{
     Descriptor(0)
 }
 
 // Does one of so many words from an address on describe a segment?
-fn is_described(dbr: Dbr, address: u64, words: u64) -> bool {
+fn is_described(dbr: Dbr, address: u64, words: u64) -> bool
+    requires { ⌜ (dbr .address ≤ 16777215) × (dbr .length ≤ 4096) × (address ≤ 33554431) × (words ≤ 13) ⌝ }
+    ensures { λ r. ⌜ r ≡ is-described (as-dbr dbr) address words ⌝ }
+{
     (address < dbr.address + dbr.length) & (dbr.address < address + words)
+}
+
+// 12 to 15 and the questions of the use, of a descriptor that was found.
+fn judged(by: Use, d: Descriptor, words: usize, ipr: Pointer, t: Pointer) -> Translated
+    ensures { λ x. ⌜ x ≡ asked-of (questions-of by (as-pointer ipr) (as-pointer t)) (passed-unless (word-answer words (d .0) (t .word .0)) d) ⌝ }
+{
+    ask(by, judge(d, words, t), ipr, t)
+}
+
+// A store by it, and how the step ends.
+fn written(core: Core, memory: &mut [u64], d: Descriptor, t: Pointer, value: u64) -> After
+    ensures { λ y. ⌜ Written core d t value (now (memory .entry)) y (now (memory .exit)) ⌝ }
+{
+    let x = judged(Use::Write, d, memory.len(), t, t);
+    let n = write_by(x, memory, t, value);
+    operations::access::stored(core, d, t, n)
+}
+
+// Is the word there a segment's descriptor?
+fn is_descriptor(dbr: Dbr, d: Descriptor, t: Pointer) -> bool
+    requires { ⌜ (dbr .address ≤ 16777215) × (dbr .length ≤ 4096) × (t .word .0 ≤ 65535) ⌝ }
+    ensures { λ r. ⌜ r ≡ is-described (as-dbr dbr) (descriptor-in (d .0) .address + t .word .0) 1 ⌝ }
+{
+    is_described(dbr, words::descriptor::address_of(d) + t.word.0, 1)
+}
+
+// A store at the operand, which clears where the word describes a segment.
+fn storing(
+    delivery: Delivery,
+    core: Core,
+    memory: &mut [u64],
+    far: Far,
+    budget: u32,
+    d: Descriptor,
+    t: Pointer,
+    value: u64,
+) -> Pending
+    requires { ⌜ (far .count < budget) × (far .total ≤ 64 * far .count) × (far .read ≤ 64) × (core .dbr .address ≤ 16777215) × (core .dbr .length ≤ 4096) × (t .word .0 ≤ 65535) ⌝ }
+    ensures { λ x. ⌜ Stores delivery budget core far (d .0) t value (now (memory .entry)) x (now (memory .exit)) ⌝ }
+{
+    let dbr = core.dbr;
+    let clears = is_descriptor(dbr, d, t);
+    let y = written(core, memory, d, t, value);
+    after(delivery, y, far, budget, clears)
+}
+
+// The descriptor's word: the record's, or else memory's, which is read only then.
+fn word_of(s: Search, dbr: Dbr, memory: &[u64]) -> u64
+    requires { ⌜ (dbr .address + dbr .length ≤ length (now memory)) × (s .segment < dbr .length) ⌝ }
+    ensures { λ w. ⌜ w ≡ cond (s .hit) (s .word) (getD (now (memory .entry)) (dbr .address + s .segment) 0) ⌝ }
+{
+    if s.hit {
+        return s.word;
+    }
+    let at = dbr.address as usize + s.segment as usize;
+    memory[at]
+}
+
+// LDA, ADA, SBA, ANA, ORA, XRA, CNT.
+fn loading(
+    delivery: Delivery,
+    core: Core,
+    memory: &[u64],
+    far: Far,
+    budget: u32,
+    d: Descriptor,
+    opcode: u8,
+    t: Pointer,
+) -> Pending
+    requires { ⌜ (far .count < budget) × (far .total ≤ 64 * far .count) × (far .read ≤ 64) ⌝ }
+    ensures { λ x. ⌜ Answers-read delivery budget core far (d .0) t (read-questions (as-pointer t)) (load-with (result opcode)) (now (memory .entry)) x ⌝ }
+{
+    let z = word_by(judged(Use::Read, d, memory.len(), t, t), memory, t);
+    let y = operations::access::loaded(core, d, opcode, t, z);
+    after(delivery, y, far, budget, false)
+}
+
+// LDBR, which clears.
+fn loading_dbr(
+    delivery: Delivery,
+    core: Core,
+    memory: &[u64],
+    far: Far,
+    budget: u32,
+    d: Descriptor,
+    t: Pointer,
+) -> Pending
+    requires { ⌜ (far .count < budget) × (far .total ≤ 64 * far .count) × (far .read ≤ 64) ⌝ }
+    ensures { λ x. ⌜ Answers-read delivery budget core far (d .0) t (read-questions (as-pointer t)) (load-dbr-with (length (now (memory .entry))) t) (now (memory .entry)) x ⌝ }
+{
+    let z = word_by(judged(Use::Read, d, memory.len(), t, t), memory, t);
+    let y = operations::access::dbr_loaded(core, d, memory.len(), t, z);
+    after(delivery, y, far, budget, true)
 }
 
 // An instruction that is formed: its operand's segment is used, or it has none to use.
@@ -306,30 +412,6 @@ fn pointed(
     }
 }
 
-// A store at the operand, which clears where the word describes a segment.
-fn storing(
-    delivery: Delivery,
-    core: Core,
-    memory: &mut [u64],
-    far: Far,
-    budget: u32,
-    d: Descriptor,
-    t: Pointer,
-    value: u64,
-) -> Pending {
-    let dbr = core.dbr;
-    let clears = is_described(dbr, words::descriptor::address_of(d) + t.word.0, 1);
-    let x = ask(Use::Write, judge(d, memory.len(), t), t, t);
-    let n = write_by(x, memory, t, value);
-    after(
-        delivery,
-        operations::access::stored(core, none(), t, n),
-        far,
-        budget,
-        clears,
-    )
-}
-
 // AOS's word, and then its write.
 fn updating(delivery: Delivery, core: Core, memory: &[u64], far: Far, x: Translated, t: Pointer) -> Pending {
     match word_by(x, memory, t) {
@@ -390,17 +472,9 @@ fn operated(
             let y = control::returned(core, none(), prs, t, ask(Use::Return, x, t, t));
             after(delivery, y, far, budget, false)
         }
-        40 => {
-            let z = word_by(ask(Use::Read, x, t, t), memory, t);
-            let y = operations::access::dbr_loaded(core, none(), memory.len(), t, z);
-            after(delivery, y, far, budget, true)
-        }
+        40 => loading_dbr(delivery, core, memory, far, budget, d, t),
         42 => restoring(delivery, core, prs, memory, far, budget, x, t),
-        _ => {
-            let z = word_by(ask(Use::Read, x, t, t), memory, t);
-            let y = operations::access::loaded(core, none(), number, t, z);
-            after(delivery, y, far, budget, false)
-        }
+        _ => loading(delivery, core, memory, far, budget, d, number, t),
     }
 }
 
@@ -436,15 +510,6 @@ fn saved(
             )
         }
     }
-}
-
-// The descriptor's word: the record's, or else memory's, which is read only then.
-fn word_of(s: Search, dbr: Dbr, memory: &[u64]) -> u64 {
-    if s.hit {
-        return s.word;
-    }
-    let at = dbr.address as usize + s.segment as usize;
-    memory[at]
 }
 
 // The run goes on until it asks again or ends, given what was found for the segment that it asked for.

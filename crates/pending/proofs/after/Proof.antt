@@ -2,8 +2,6 @@
 use borrow.Author.Needs.{needs}
 use Rattle.pending.proofs.after.Statement.{statement}
 use Rattle.pending.proofs.after.Tie as tie
-use Rattle.pending.proofs.after.Reads as reads
-use Rattle.pending.proofs.after.Lts as lts
 
 going-on-requires : tie.Need-going-on-requires
 going-on-requires c κs = search needs
@@ -11,6 +9,5 @@ going-on-requires c κs = search needs
 returns : tie.Need-returns
 returns c = search needs
 
--- antt refused `after-spec` as it was built: the module's report says why
 pub after-spec : {M : Type 1} → statement M
 after-spec = tie.close (tie.spec going-on-requires returns)

@@ -3,23 +3,18 @@ use Rattle.pending.proofs.GoesLaws.{begins}
 use borrow.Author.Needs.{needs}
 use Rattle.pending.proofs.begin.Statement.{statement}
 use Rattle.pending.proofs.begin.Tie as tie
-use Rattle.pending.proofs.begin.Reads as reads
-use Rattle.pending.proofs.begin.Lts as lts
 
 ended-requires : tie.Need-ended-requires
 ended-requires c κs = search (needs, begins)
 
--- antt refused `returns` as it was built: the module's report says why
 returns : tie.Need-returns
 returns c = search (needs, begins)
 
 using-requires : tie.Need-using-requires
 using-requires c κs = search (needs, begins)
 
--- antt refused `returns-2` as it was built: the module's report says why
 returns-2 : tie.Need-returns-2
 returns-2 c = search (needs, begins)
 
--- antt refused `begin-spec` as it was built: the module's report says why
 pub begin-spec : {M : Type 1} → statement M
 begin-spec = tie.close (tie.spec ended-requires returns using-requires returns-2)

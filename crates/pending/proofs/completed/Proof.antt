@@ -4,8 +4,6 @@ use Rattle.pending.proofs.GoesLaws.{completes-on}
 use borrow.Author.Needs.{needs}
 use Rattle.pending.proofs.completed.Statement.{statement}
 use Rattle.pending.proofs.completed.Tie as tie
-use Rattle.pending.proofs.completed.Reads as reads
-use Rattle.pending.proofs.completed.Lts as lts
 
 add-begin : tie.Need-add-begin
 add-begin c = search needs
@@ -16,10 +14,8 @@ add-begin-2 c = search needs
 begin-requires : tie.Need-begin-requires
 begin-requires c κs = search needs
 
--- antt refused `returns` as it was built: the module's report says why
 returns : tie.Need-returns
 returns c = completes-on _ _ _ _ _ _ _ _ refl refl (c .begin .ensures)
 
--- antt refused `completed-spec` as it was built: the module's report says why
 pub completed-spec : {M : Type 1} → statement M
 completed-spec = tie.close (tie.spec add-begin add-begin-2 begin-requires returns)

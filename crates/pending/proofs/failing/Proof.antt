@@ -3,8 +3,6 @@ use Rattle.pending.proofs.GoesLaws.{fails}
 use borrow.Author.Needs.{needs}
 use Rattle.pending.proofs.failing.Statement.{statement}
 use Rattle.pending.proofs.failing.Tie as tie
-use Rattle.pending.proofs.failing.Reads as reads
-use Rattle.pending.proofs.failing.Lts as lts
 
 cast-save : tie.Need-cast-save
 cast-save c = search (needs, fails)
@@ -12,25 +10,21 @@ cast-save c = search (needs, fails)
 ended-requires : tie.Need-ended-requires
 ended-requires c κs = search (needs, fails)
 
--- antt refused `returns` as it was built: the module's report says why
 returns : tie.Need-returns
 returns c = search (needs, fails)
 
 ended-requires-2 : tie.Need-ended-requires-2
 ended-requires-2 c κs = search (needs, fails)
 
--- antt refused `returns-2` as it was built: the module's report says why
 returns-2 : tie.Need-returns-2
 returns-2 c = search (needs, fails)
 
 asking-requires : tie.Need-asking-requires
 asking-requires c κs = search (needs, fails)
 
--- antt refused `returns-3` as it was built: the module's report says why
 returns-3 : tie.Need-returns-3
 returns-3 c = search (needs, fails)
 
--- antt refused `failing-spec` as it was built: the module's report says why
 pub failing-spec : {M : Type 1} → statement M
 failing-spec =
     tie.close

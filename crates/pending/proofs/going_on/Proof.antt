@@ -3,8 +3,6 @@ use Rattle.pending.proofs.GoesLaws.{ends}
 use borrow.Author.Needs.{needs}
 use Rattle.pending.proofs.going_on.Statement.{statement}
 use Rattle.pending.proofs.going_on.Tie as tie
-use Rattle.pending.proofs.going_on.Reads as reads
-use Rattle.pending.proofs.going_on.Lts as lts
 
 enum-told : tie.Need-enum-told
 enum-told c = search (needs, ends)
@@ -33,19 +31,15 @@ enum-known-end c = search (needs, ends)
 failing-requires : tie.Need-failing-requires
 failing-requires c κs = search (needs, ends)
 
--- antt refused `returns` as it was built: the module's report says why
 returns : tie.Need-returns
 returns c = search (needs, ends)
 
--- antt refused `returns-2` as it was built: the module's report says why
 returns-2 : tie.Need-returns-2
 returns-2 c = search (needs, ends)
 
--- antt refused `returns-3` as it was built: the module's report says why
 returns-3 : tie.Need-returns-3
 returns-3 c = search (needs, ends)
 
--- antt refused `going-on-spec` as it was built: the module's report says why
 pub going-on-spec : {M : Type 1} → statement M
 going-on-spec =
     tie.close
