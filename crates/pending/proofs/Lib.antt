@@ -7,3 +7,5 @@ pub mod StoreLaws
 pub mod WordLaws
 pub mod EndLaws
 pub mod ReadLaws
+pub mod LookLaws
+pub mod UpdateLaws

@@ -3,7 +3,6 @@ use mathlib.Core.Path.{_≡_, refl, sym, _∙_, ap, subst}
 use mathlib.Core.Bool.{Bool, true, false}
 use mathlib.Core.List.{List}
 use Prim.Native.Nat.{ℕ, _<_}
-use native.Mathlib.Omega.{arith}
 use lib.ListN.{length}
 use Rattle.model.specs.Words as Words
 use Rattle.model.specs.Registers as Registers
@@ -11,10 +10,10 @@ use Rattle.model.specs.Questions.{Question, dbr-fits, read-questions}
 use Rattle.model.specs.Program.{Program}
 use Rattle.model.specs.Step.{if-dbr-fits}
 use Rattle.model.proofs.BranchLaws.{cond-holds}
-use Rattle.model.proofs.WordLaws.{field-within-width, Within}
+use Rattle.model.proofs.WordLaws.{Within}
 use Rattle.model.proofs.LeavesLaws.{Leaves}
-use Rattle.model.proofs.FitLaws.{Dbr-fit, Fit, fit-with-a, fit-with-dbr, fit-advanced}
-use Rattle.model.proofs.SoundLaws.{passing-fits}
+use Rattle.model.proofs.FitLaws.{Fit, fit-with-a, fit-with-dbr, fit-advanced}
+use Rattle.model.proofs.SoundLaws.{passing-fits, loaded-dbr-fit}
 use Rattle.words.specs.View.{as-pointer, Pointer-within}
 use Rattle.words.specs.declared.descriptor.Descriptor.{Descriptor}
 use Rattle.words.specs.declared.pointer.Pointer.{Pointer}
@@ -76,17 +75,13 @@ pub load-ends : (h : (a word : ℕ) → ℕ) (size : ℕ) → Ends-read false si
 load-ends h size = record { quiet = λ r k w. (unfold Quiet in refl); leaves = λ r fit k w. (unfold Leaves in fit-advanced (fit-with-a fit _ tt)) }
 
 -- LDBR: 34 is asked of its word
-dbr-fit : (size w : ℕ) → dbr-fits size (Registers.dbr-in w) ≡ true → Dbr-fit size (Registers.dbr-in w)
-unfolding Registers.dbr-in
-dbr-fit size w e = let x = field-within-width 0 24 w in record { address-within = omega arith; fits = e }
-
 pub load-dbr-ends : (size : ℕ) (t : Pointer) → Within (as-pointer t) → Ends-read true size (load-dbr-with size t)
 unfolding if-dbr-fits Quiet Finishes Leaves
 load-dbr-ends size t w =
     record {
       quiet = λ r k i. cond-holds (Quiet true) (dbr-fits size (Registers.dbr-in i)) (λ _. (refl, tt)) (λ _. w);
       leaves = λ r fit k i.
-          cond-holds (Leaves (λ _. Unit) (Fits size)) (dbr-fits size (Registers.dbr-in i)) (λ e. fit-advanced (fit-with-dbr fit (Registers.dbr-in i) (dbr-fit size i e))) (λ _. tt);
+          cond-holds (Leaves (λ _. Unit) (Fits size)) (dbr-fits size (Registers.dbr-in i)) (λ e. fit-advanced (fit-with-dbr fit (Registers.dbr-in i) (loaded-dbr-fit size i e))) (λ _. tt);
     }
 
 module _ (v : Delivery) (b : ℕ) (c : Core) (f : Far) (d : Descriptor) (t : Pointer) (m : List ℕ) (x : Translated) (z : Accessed) (y : After) (p : Pending)

@@ -10,11 +10,11 @@ use Rattle.model.specs.Words as Words
 use Rattle.model.specs.Words.{Instruction, instruction-in}
 use Rattle.model.specs.Registers as Registers
 use Rattle.model.specs.Registers.{advanced}
-use Rattle.model.specs.Opcodes.{Opcode, decoded}
-use Rattle.model.specs.Questions.{Question, write-questions, start-questions}
+use Rattle.model.specs.Opcodes.{Opcode, sum, decoded}
+use Rattle.model.specs.Questions.{Question, new-ring, write-questions, start-questions}
 use Rattle.model.specs.Program.{Program, fail, finish, halt, look, read, tick, forget, write}
 use Rattle.model.specs.Run as Run
-use Rattle.model.specs.Step.{chain, if-dbr-fits, perform, step-program}
+use Rattle.model.specs.Step.{chain, if-dbr-fits, called, returned, perform, step-program}
 use Rattle.close.specs.Close.{Held, cleared, each-once, Found, look-up, Ran-close, ran-close, run-close-from}
 use Rattle.close.specs.Rest.{rest}
 use Rattle.words.specs.View.{as-pointer, Pointer-within}
@@ -89,7 +89,7 @@ abbrev pub Asks-at : Delivery → (size : ℕ) → Registers.Registers → (read
 Asks-at v n r k Place.Fetch s = s ≡ r .ipr .segment
 Asks-at v n r k (Place.Pointer w l t) s = Formed-at r t s × (1 ≤ l) × (k + l ≤ 64)
 Asks-at v n r k (Place.Operand w t) s = Formed-at r t s × Uses (as-pointer t) (performed n r w (as-pointer t))
-Asks-at v n r k (Place.Update w t) s = Formed-at r t s
+Asks-at v n r k (Place.Update w t) s = (s ≡ t .segment .0) × Pointer-within t
 Asks-at v n r k (Place.Save a t) s = (s ≡ v .save) × (v .switch ≡ 1) × Pointer-within t
 
 pub record Asks (v : Delivery) (b : ℕ) (x : Pending) (r : Registers.Registers) (size : ℕ) : Type 0 where
@@ -204,3 +204,22 @@ load-dbr-with n t r d w = if-dbr-fits n (Registers.dbr-in w) (as-pointer t) (for
 pub record Answers-read (v : Delivery) (b : ℕ) (c : Core) (f : Far) (word : ℕ) (t : Pointer) (q : Question) (g : Registers.Registers → Words.Descriptor → (word : ℕ) → Program) (m : List ℕ) (x : Pending) : Type 0 where
   pub answers : (ps : List Words.Pointer) → Under-way v b f (machine-with c ps m) → Pointer-within t → t .segment .0 < c .dbr .length →
       Answers v b f (machine-with c ps m) (read q (as-pointer t) (g (registers-with c ps))) (t .segment .0) word x ps m
+
+-- A LOOK that is answered, in any memory of that size, and what is done with the descriptor; a pointer in no lower ring than IPR's
+pub record Answers-look (v : Delivery) (b : ℕ) (c : Core) (f : Far) (word : ℕ) (t : Pointer) (q : Question) (g : Registers.Registers → Words.Descriptor → Program) (size : ℕ) (x : Pending) (ps ps-now : List Words.Pointer) : Type 0 where
+  pub answers : (m : List ℕ) → length m ≡ size → Under-way v b f (machine-with c ps m) → Formed-at (registers-with c ps) t (t .segment .0) → t .segment .0 < c .dbr .length →
+      Answers v b f (machine-with c ps m) (look q (as-pointer t) (g (registers-with c ps))) (t .segment .0) word x ps-now m
+
+-- what control does then
+abbrev pub move-with : Pointer → Registers.Registers → Words.Descriptor → Program
+move-with t r d = finish (Registers.with-ipr (as-pointer t) r)
+
+abbrev pub return-with : Pointer → Registers.Registers → Words.Descriptor → Program
+return-with t r d = finish (returned (as-pointer t) r)
+
+abbrev pub call-with : Pointer → Registers.Registers → Words.Descriptor → Program
+call-with t r d = finish (called (new-ring (as-pointer t) d) (as-pointer t) r)
+
+-- AOS: its word, and then its write
+abbrev pub update-with : Pointer → Registers.Registers → Words.Descriptor → (word : ℕ) → Program
+update-with t r d w = stores r t (sum w 1)

@@ -1,10 +1,13 @@
 // A step turned inside out (02, L7): it stops wherever it asks for a segment's descriptor, and goes on with the one that was found. What an
 // opcode does with it is the plain processor's.
 ghost use mathlib.Core.Path.{_≡_};
-ghost use Prim.Native.Nat.{_+_, _*_, _%_, _<_, _≤_};
+ghost use Prim.Native.Nat.{ℕ, _+_, _*_, _%_, _<_, _≤_};
 ghost use Rattle.state.specs.declared.End.the-variants.{Completed};
-ghost use Rattle.pending.specs.Left.{ended-with, asking-at, Fails, Goes-by-use, Begins, Goes-on, is-described, Written, Stores, load-with, load-dbr-with, Answers-read};
-ghost use Rattle.model.specs.Questions.{read-questions};
+ghost use Rattle.pending.specs.Left.{ended-with, asking-at, Fails, Goes-by-use, Begins, Goes-on, is-described, Written, Stores, load-with, load-dbr-with, Answers-read, update-with, Answers-look, move-with, return-with, call-with};
+ghost use mathlib.Core.List.{List};
+ghost use Rattle.model.specs.Words as Words;
+ghost use Rattle.state.specs.View.{as-pointers};
+ghost use Rattle.model.specs.Questions.{read-questions, transfer-questions, return-questions, call-questions};
 ghost use Rattle.opcodes.specs.Table.{result};
 ghost use Rattle.model.specs.Words.{descriptor-in};
 ghost use Rattle.words.specs.View.{as-pointer};
@@ -299,6 +302,80 @@ fn loading_dbr(
     after(delivery, y, far, budget, true)
 }
 
+// A transfer that is taken, in a memory of so many words.
+fn moving(
+    delivery: Delivery,
+    core: Core,
+    far: Far,
+    budget: u32,
+    d: Descriptor,
+    words: usize,
+    t: Pointer,
+) -> Pending
+    requires { ⌜ (far .count < budget) × (far .total ≤ 64 * far .count) × (far .read ≤ 64) ⌝ }
+    ensures { λ x. ⌜ ((ps : List Words.Pointer) → Answers-look delivery budget core far (d .0) t (transfer-questions (as-pointer (core .ipr)) (as-pointer t)) (move-with t) words x ps ps) ⌝ }
+{
+    let ipr = core.ipr;
+    let y = control::moved_to(core, d, t, judged(Use::Transfer, d, words, ipr, t));
+    after(delivery, y, far, budget, false)
+}
+
+// RETURN.
+fn returning(
+    delivery: Delivery,
+    core: Core,
+    prs: &mut [u16; 24],
+    far: Far,
+    budget: u32,
+    d: Descriptor,
+    words: usize,
+    t: Pointer,
+) -> Pending
+    requires { ⌜ (far .count < budget) × (far .total ≤ 64 * far .count) × (far .read ≤ 64) × (t .ring ≤ 7) ⌝ }
+    ensures { λ x. ⌜ Answers-look delivery budget core far (d .0) t (return-questions (as-pointer t)) (return-with t) words x (as-pointers (now (prs .entry))) (as-pointers (now (prs .exit))) ⌝ }
+{
+    let y = control::returned(core, d, prs, t, judged(Use::Return, d, words, t, t));
+    after(delivery, y, far, budget, false)
+}
+
+// CALL.
+fn calling(
+    delivery: Delivery,
+    core: Core,
+    prs: &mut [u16; 24],
+    far: Far,
+    budget: u32,
+    d: Descriptor,
+    words: usize,
+    t: Pointer,
+) -> Pending
+    requires { ⌜ (far .count < budget) × (far .total ≤ 64 * far .count) × (far .read ≤ 64) × (t .ring ≤ 7) ⌝ }
+    ensures { λ x. ⌜ Answers-look delivery budget core far (d .0) t (call-questions (as-pointer (core .ipr)) (as-pointer t)) (call-with t) words x (as-pointers (now (prs .entry))) (as-pointers (now (prs .exit))) ⌝ }
+{
+    let ipr = core.ipr;
+    let x = control::ring_by(t, judged(Use::Call, d, words, ipr, t));
+    let y = control::called(core, d, prs, t, x);
+    after(delivery, y, far, budget, false)
+}
+
+// AOS's word, and then its write.
+fn updating(
+    delivery: Delivery,
+    core: Core,
+    memory: &[u64],
+    far: Far,
+    d: Descriptor,
+    t: Pointer,
+) -> Pending
+    ensures { λ x. ⌜ ((b : ℕ) → Answers-read delivery b core far (d .0) t (read-questions (as-pointer t)) (update-with t) (now (memory .entry)) x) ⌝ }
+{
+    let z = word_by(judged(Use::Read, d, memory.len(), t, t), memory, t);
+    match z {
+        Accessed::Refused(n) => failing(delivery, core, far, n, t),
+        Accessed::Word(_d, v) => using(delivery, core, far, Place::Update(add(v, 1), t), t),
+    }
+}
+
 // An instruction that is formed: its operand's segment is used, or it has none to use.
 fn performing(
     delivery: Delivery,
@@ -412,14 +489,6 @@ fn pointed(
     }
 }
 
-// AOS's word, and then its write.
-fn updating(delivery: Delivery, core: Core, memory: &[u64], far: Far, x: Translated, t: Pointer) -> Pending {
-    match word_by(x, memory, t) {
-        Accessed::Refused(n) => failing(delivery, core, far, n, t),
-        Accessed::Word(_d, v) => using(delivery, core, far, Place::Update(add(v, 1), t), t),
-    }
-}
-
 // RCU.
 fn restoring(
     delivery: Delivery,
@@ -449,31 +518,21 @@ fn operated(
     w: u64,
     t: Pointer,
 ) -> Pending {
-    let ipr = core.ipr;
     let a = core.a;
     let number = opcode(w);
-    let x = judge(d, memory.len(), t);
+    let words = memory.len();
     match number {
         2 => storing(delivery, core, memory, far, budget, d, t, a),
-        9 => updating(delivery, core, memory, far, ask(Use::Read, x, t, t), t),
+        9 => updating(delivery, core, memory, far, d, t),
         17 => {
             let value = operations::registers::stored_pointer(prs, w);
             storing(delivery, core, memory, far, budget, d, t, value)
         }
-        24 | 25 | 26 => {
-            let y = control::moved_to(core, none(), t, ask(Use::Transfer, x, ipr, t));
-            after(delivery, y, far, budget, false)
-        }
-        32 => {
-            let y = control::called(core, none(), prs, t, control::ring_by(t, ask(Use::Call, x, ipr, t)));
-            after(delivery, y, far, budget, false)
-        }
-        33 => {
-            let y = control::returned(core, none(), prs, t, ask(Use::Return, x, t, t));
-            after(delivery, y, far, budget, false)
-        }
+        24 | 25 | 26 => moving(delivery, core, far, budget, d, words, t),
+        32 => calling(delivery, core, prs, far, budget, d, words, t),
+        33 => returning(delivery, core, prs, far, budget, d, words, t),
         40 => loading_dbr(delivery, core, memory, far, budget, d, t),
-        42 => restoring(delivery, core, prs, memory, far, budget, x, t),
+        42 => restoring(delivery, core, prs, memory, far, budget, judge(d, words, t), t),
         _ => loading(delivery, core, memory, far, budget, d, number, t),
     }
 }
