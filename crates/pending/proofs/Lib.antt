@@ -9,3 +9,5 @@ pub mod EndLaws
 pub mod ReadLaws
 pub mod LookLaws
 pub mod UpdateLaws
+pub mod FrameLaws
+pub mod AgainLaws
