@@ -11,3 +11,4 @@ pub mod LookLaws
 pub mod UpdateLaws
 pub mod FrameLaws
 pub mod AgainLaws
+pub mod WordsLaws
