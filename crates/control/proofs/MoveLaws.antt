@@ -27,7 +27,7 @@ use Rattle.state.specs.declared.Core.{Core}
 use Rattle.state.specs.declared.After.{After}
 use Rattle.segments.specs.declared.translate.Translated.{Translated}
 use Rattle.segments.specs.declared.translate.Translated.the-variants.{Refused, Passed}
-use Rattle.state.proofs.DoesLaws.{does-as, does-advance, look-answered, rest-faults, rest-completes}
+use Rattle.state.proofs.DoesLaws.{does-advance, look-answered, rest-faults, rest-completes}
 use Rattle.control.specs.Call.{Enters, ring-by, checked-by, ringed-by, Ring-within, Ring-right}
 use Rattle.control.specs.declared.Checked.{Checked}
 use Rattle.control.specs.declared.Checked.the-variants.{Bad, Ring}
@@ -81,17 +81,15 @@ module _ (c : Core) (d : Descriptor) (m : List ℕ) (t : Pointer) (k : ℕ) (b :
   unfolding Step.transfer execute machine
   transfer-not-taken v h = record { does = λ ps. does-advance c c d ps m m _ x (registers-with c ps) refl h refl (rw (← j, not-true b v)) }
 
-  pub transfer-taken : not b ≡ false → (y : Translated) → looked (as-dbr (c .dbr)) m t (transfer-questions (as-pointer (c .ipr)) t) y →
-      ((ps : List Pointer) → Does-after-look c d ps (transfer-questions (as-pointer (c .ipr)) t) t y (λ _. finish (with-ipr t (registers-with c ps))) x ps) →
-      Does-with-any-prs c d m (λ r. Step.transfer (taken k (c .a)) r t) x m
-  unfolding Step.transfer
-  transfer-taken v y s h =
-      record {
-        does =
-            λ ps.
-            does-as c d ps m _ x ps m _ (rw (← j, not-false b v) refl)
-            (look-answered c d ps m t _ y s (λ _. finish (with-ipr t (registers-with c ps))) x ps (h ps));
-      }
+  pub transfer-taken : not b ≡ false → Does-with-any-prs c d m (λ r. Step.transfer true r t) x m → Does-with-any-prs c d m (λ r. Step.transfer (taken k (c .a)) r t) x m
+  transfer-taken v h = rw (← j, not-false b v) h
+
+-- a taken one, by what its look has answered
+pub transfer-looked : (c : Core) (d : Descriptor) (m : List ℕ) (t : Pointer) (y : Translated) → looked (as-dbr (c .dbr)) m t (transfer-questions (as-pointer (c .ipr)) t) y → (x : After) →
+    ((ps : List Pointer) → Does-after-look c d ps (transfer-questions (as-pointer (c .ipr)) t) t y (λ _. finish (with-ipr t (registers-with c ps))) x ps) →
+    Does-with-any-prs c d m (λ r. Step.transfer true r t) x m
+unfolding Step.transfer
+transfer-looked c d m t y s x h = record { does = λ ps. look-answered c d ps m t _ y s (λ _. finish (with-ipr t (registers-with c ps))) x ps (h ps) }
 
 -- TRANSFERS AND RETURN, once the look has passed
 module _ (c : Core) (d : Descriptor) (ps : List Pointer) (t : Pointer) (y : Translated) (x : After) (e : Descriptor) (f : y ≡ Passed e) (u : Code.Pointer) (h : Enters c u e x) (g : as-pointer u ≡ t) where
@@ -149,6 +147,9 @@ module _ (m : Machine) (t : Pointer) where
   check-passes d n s =
       ap (λ a. Check.answered a t (new-ring t (descriptor-of m (t .segment)))) (use-answer-by m t _ ∙ looks-passes (m .registers .dbr) (m .memory) t _ (d .0) (s .0))
       ∙ ap Check.passes (ap (λ w. new-ring t (descriptor-in w)) (sym (s .0 .found .same)) ∙ sym (s .1))
+
+pub ring-holds : (y : Checked) (e : Descriptor) (n : ℕ) → Ring-within y → y ≡ Ring e n → n ≤ 7
+ring-holds y e n h f = h .within e n f
 
 -- CALL, once its check is answered
 module _ (c : Core) (d : Descriptor) (ps : List Pointer) (t : Pointer) (y : Checked) (x : After) where

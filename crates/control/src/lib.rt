@@ -1,5 +1,6 @@
 // The opcodes that move control: transfers, CALL and RETURN.
 ghost use mathlib.Core.Path.{_≡_};
+ghost use mathlib.Core.Bool.{true};
 ghost use mathlib.Core.List.{List, map};
 ghost use Prim.Native.Nat.{_+_, _≤_};
 ghost use lib.ListN.{length};
@@ -41,6 +42,14 @@ pub fn transfer(core: Core, code: Descriptor, memory: &[u64], opcode: u8, t: Poi
     if !opcodes::arithmetic::is_taken(opcode, core.a) {
         return state::completed(core, code);
     }
+    move_to(core, code, memory, t)
+}
+
+// A transfer that is taken.
+fn move_to(core: Core, code: Descriptor, memory: &[u64], t: Pointer) -> After
+    requires { ⌜ Ready core (now memory) ⌝ }
+    ensures { λ x. ⌜ Does-with-any-prs core code (now (memory .entry)) (λ r. Step.transfer true r (as-pointer t)) x (now (memory .entry)) ⌝ }
+{
     let dbr = core.dbr;
     let ipr = core.ipr;
     moved_to(
@@ -51,8 +60,8 @@ pub fn transfer(core: Core, code: Descriptor, memory: &[u64], opcode: u8, t: Poi
     )
 }
 
-// What a transfer that is taken does with the look's answer, wherever the descriptor was found.
-pub fn moved_to(core: Core, code: Descriptor, t: Pointer, x: Translated) -> After
+// What it does with the look's answer, wherever the descriptor was found.
+fn moved_to(core: Core, code: Descriptor, t: Pointer, x: Translated) -> After
     ensures { λ y. ⌜ ((ps : List Words.Pointer) → Does-after-look core code ps (transfer-questions (as-pointer (core .ipr)) (as-pointer t)) (as-pointer t) x (λ _. finish (Registers.with-ipr (as-pointer t) (registers-with core ps))) y ps) ⌝ }
 {
     match x {
@@ -76,7 +85,7 @@ pub fn check(dbr: Dbr, memory: &[u64], ipr: Pointer, t: Pointer) -> Checked
 }
 
 // What the check makes of the look's answer.
-pub fn ring_by(t: Pointer, x: Translated) -> Checked
+fn ring_by(t: Pointer, x: Translated) -> Checked
     ensures { λ y. ⌜ y ≡ ring-by (as-pointer t) x ⌝ }
 {
     match x {
@@ -95,7 +104,7 @@ pub fn call(core: Core, code: Descriptor, prs: &mut [u16; 24], memory: &[u64], t
 }
 
 // What CALL does with the check's answer: the move, by its ring.
-pub fn called(core: Core, code: Descriptor, prs: &mut [u16; 24], t: Pointer, x: Checked) -> After
+fn called(core: Core, code: Descriptor, prs: &mut [u16; 24], t: Pointer, x: Checked) -> After
     requires { ⌜ Ring-within x ⌝ }
     ensures { λ y. ⌜ Does-in-any-memory core code (as-pointers (now (prs .entry))) (ringed-by x (as-pointer t) (λ n. finish (Step.called n (as-pointer t) (as-registers core (now (prs .entry)))))) (Ring-right x) y (as-pointers (now (prs .exit))) ⌝ }
 {
@@ -146,13 +155,7 @@ pub fn return_to(
 }
 
 // What RETURN does with the look's answer.
-pub fn returned(
-    core: Core,
-    code: Descriptor,
-    prs: &mut [u16; 24],
-    t: Pointer,
-    x: Translated,
-) -> After
+fn returned(core: Core, code: Descriptor, prs: &mut [u16; 24], t: Pointer, x: Translated) -> After
     requires { ⌜ t .ring ≤ 7 ⌝ }
     ensures { λ y. ⌜ Does-after-look core code (as-pointers (now (prs .entry))) (return-questions (as-pointer t)) (as-pointer t) x (λ _. finish (Step.returned (as-pointer t) (as-registers core (now (prs .entry))))) y (as-pointers (now (prs .exit))) ⌝ }
 {

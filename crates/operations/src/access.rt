@@ -5,12 +5,12 @@ ghost use lib.ListN.{length};
 ghost use Rattle.model.specs.Opcodes.{sum};
 ghost use Rattle.model.specs.Registers as Registers;
 ghost use Rattle.model.specs.Questions as Questions;
-ghost use Rattle.model.specs.Program.{finish};
 ghost use Rattle.model.specs.Step as Step;
 ghost use Rattle.words.specs.View.{as-pointer};
 ghost use Rattle.opcodes.specs.Table.{result};
 ghost use Rattle.segments.specs.Translation.{as-dbr};
-ghost use Rattle.state.specs.View.{Ready, Does-with-any-prs, Does-after-read, Does-after-write};
+ghost use Rattle.state.specs.View.{Ready, Does-with-any-prs, Does-anywhere, Does-after-read, Does-after-write};
+ghost use Rattle.operations.specs.Rest.{sets-a, sets-dbr, stores-sum};
 use questions::Use;
 use segments::access::Accessed;
 use segments::translate::Dbr;
@@ -35,16 +35,21 @@ pub fn load(core: Core, code: Descriptor, memory: &[u64], opcode: u8, t: Pointer
 }
 
 // What they do with the read's answer, wherever the descriptor was found.
-pub fn loaded(core: Core, code: Descriptor, opcode: u8, t: Pointer, x: Accessed) -> After
-    ensures { λ y. ⌜ Does-after-read core code (as-pointer t) x (λ r _ w. finish (Registers.advanced (Registers.with-a (result opcode (r .a) w) r))) y ⌝ }
+fn loaded(core: Core, code: Descriptor, opcode: u8, t: Pointer, x: Accessed) -> After
+    ensures { λ y. ⌜ Does-after-read core code (as-pointer t) x (λ r _ w. sets-a opcode w r) y ⌝ }
 {
     match x {
         Accessed::Refused(n) => state::faulted(core, code, n, t),
-        Accessed::Word(_d, v) => {
-            let a = opcodes::arithmetic::result_of(opcode, core.a, v);
-            state::completed(state::with_a(core, a), code)
-        }
+        Accessed::Word(_d, v) => with_result(core, code, opcode, v),
     }
+}
+
+// A becomes the opcode's result of A and the word.
+fn with_result(core: Core, code: Descriptor, opcode: u8, w: u64) -> After
+    ensures { λ x. ⌜ Does-anywhere core code (sets-a opcode w) x ⌝ }
+{
+    let a = opcodes::arithmetic::result_of(opcode, core.a, w);
+    state::completed(state::with_a(core, a), code)
 }
 
 // STA and SPP.
@@ -62,7 +67,7 @@ pub fn store(core: Core, code: Descriptor, memory: &mut [u64], t: Pointer, value
 }
 
 // What they do with the write's answer.
-pub fn stored(core: Core, code: Descriptor, t: Pointer, n: u8) -> After
+fn stored(core: Core, code: Descriptor, t: Pointer, n: u8) -> After
     ensures { λ x. ⌜ Does-after-write core code t n x ⌝ }
 {
     if n != 0 {
@@ -77,9 +82,18 @@ pub fn update(core: Core, code: Descriptor, memory: &mut [u64], t: Pointer) -> A
     ensures { λ x. ⌜ Does-with-any-prs core code (now (memory .entry)) (λ r. Step.update (λ w. sum w 1) r (as-pointer t)) x (now (memory .exit)) ⌝ }
 {
     let dbr = core.dbr;
-    match segments::access::read(Use::Read, dbr, memory, t) {
+    let x = segments::access::read(Use::Read, dbr, memory, t);
+    updated(core, code, memory, t, x)
+}
+
+// What it does with the read's answer.
+fn updated(core: Core, code: Descriptor, memory: &mut [u64], t: Pointer, x: Accessed) -> After
+    requires { ⌜ Ready core (now memory) ⌝ }
+    ensures { λ y. ⌜ Does-with-any-prs core code (now (memory .entry)) (stores-sum x (as-pointer t)) y (now (memory .exit)) ⌝ }
+{
+    match x {
         Accessed::Refused(n) => state::faulted(core, code, n, t),
-        Accessed::Word(d, v) => store(core, code, memory, t, opcodes::arithmetic::add(v, 1)),
+        Accessed::Word(_d, v) => store(core, code, memory, t, opcodes::arithmetic::add(v, 1)),
     }
 }
 
@@ -117,17 +131,22 @@ pub fn load_dbr(core: Core, code: Descriptor, memory: &[u64], t: Pointer) -> Aft
 }
 
 // What it does with the read's answer, in a memory of so many words.
-pub fn dbr_loaded(core: Core, code: Descriptor, words: usize, t: Pointer, x: Accessed) -> After
-    ensures { λ y. ⌜ Does-after-read core code (as-pointer t) x (λ r _ w. Step.if-dbr-fits words (Registers.dbr-in w) (as-pointer t) (finish (Registers.advanced (Registers.with-dbr (Registers.dbr-in w) r)))) y ⌝ }
+fn dbr_loaded(core: Core, code: Descriptor, words: usize, t: Pointer, x: Accessed) -> After
+    ensures { λ y. ⌜ Does-after-read core code (as-pointer t) x (λ r _ w. sets-dbr words w (as-pointer t) r) y ⌝ }
 {
     match x {
         Accessed::Refused(n) => state::faulted(core, code, n, t),
-        Accessed::Word(_d, v) => {
-            let next = dbr_in(v);
-            if !is_dbr(next, words) {
-                return state::faulted(core, code, 34, t);
-            }
-            state::completed(state::with_dbr(core, next), code)
-        }
+        Accessed::Word(_d, v) => take_dbr(core, code, words, t, v),
     }
+}
+
+// DBR becomes the word's, 34 asked first.
+fn take_dbr(core: Core, code: Descriptor, words: usize, t: Pointer, w: u64) -> After
+    ensures { λ x. ⌜ Does-anywhere core code (sets-dbr words w (as-pointer t)) x ⌝ }
+{
+    let next = dbr_in(w);
+    if !is_dbr(next, words) {
+        return state::faulted(core, code, 34, t);
+    }
+    state::completed(state::with_dbr(core, next), code)
 }

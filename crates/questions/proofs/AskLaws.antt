@@ -1,12 +1,12 @@
--- 21 to 30: one law for each answer, from facts as the code's tests give them. Assumes nothing.
+-- 21 to 30, and 15 of a frame: one law for each answer, from facts as the code's tests give them. Assumes nothing.
 use mathlib.Core.Path.{_≡_, _∙_}
 use mathlib.Core.Bool.{Bool, true, false, _&&_, _||_, not}
-use Prim.Native.Nat.{ℕ, _≤_, _<_, min}
+use Prim.Native.Nat.{ℕ, _+_, _-_, _≤_, _<_, min}
 use native.Mathlib.Omega.{arith}
 use lib.Dec.{ltb, leb, eqb}
-use borrow.Author.Tests.{le-leb, lt-leb, eq-eqb, ne-eqb, not-true, not-false}
+use borrow.Author.Tests.{le-ltb, lt-ltb, le-leb, lt-leb, eq-eqb, ne-eqb, not-true, not-false}
 use Rattle.model.specs.Words.{Pointer, descriptor-in}
-use Rattle.model.specs.Questions.{ask, may-execute, may-read, may-write, fetch-questions, read-questions, write-questions, return-questions, transfer-questions, new-ring, call-questions}
+use Rattle.model.specs.Questions.{ask, then-ask, word-questions, may-execute, may-read, may-write, fetch-questions, read-questions, part-questions, write-questions, return-questions, transfer-questions, new-ring, call-questions}
 use Rattle.questions.specs.Use.{questions-of}
 use Rattle.questions.specs.declared.Use.{Use}
 use Rattle.questions.specs.declared.Use.the-variants as Use
@@ -83,9 +83,34 @@ module _ (t : Pointer) (d : ℕ) where
     pub call-use : u ≡ Use.Call → n ≡ call-questions ipr t (descriptor-in d) → n ≡ questions-of u ipr t (descriptor-in d)
     call-use h e = rw h e
 
+    pub frame-use : u ≡ Use.Frame → n ≡ part-questions 13 t (descriptor-in d) → n ≡ questions-of u ipr t (descriptor-in d)
+    frame-use h e = rw h e
+
   pub transfer-24 : (ipr : Pointer) → (t .ring ≡ ipr .ring → ⊥) → 24 ≡ transfer-questions ipr t (descriptor-in d)
   unfolding transfer-questions ask
   transfer-24 ipr h = rw (ne-eqb _ _ h)
+
+  -- 15 of a frame's thirteen words, then 22
+  module _ (l : ℕ) (g : l ≡ descriptor-in d .length) where
+    pub frame-ends-outside : l ≤ t .word + 12 → 15 ≡ part-questions 13 t (descriptor-in d)
+    unfolding part-questions word-questions then-ask ask
+    frame-ends-outside h = rw (← g, le-ltb (t .word + 13 - 1) l (omega arith))
+
+    pub frame-starts-outside : l ≤ t .word → 15 ≡ part-questions 13 t (descriptor-in d)
+    frame-starts-outside h = frame-ends-outside (omega arith)
+
+    module _ (h : t .word + 12 < l) (b : Bool) (f : b ≡ may-read t (descriptor-in d)) where
+      frame-inside : (n : ℕ) → n ≡ read-questions t (descriptor-in d) → n ≡ part-questions 13 t (descriptor-in d)
+      unfolding part-questions word-questions then-ask ask
+      frame-inside n e = e ∙ rw (← g, lt-ltb (t .word + 13 - 1) l (omega arith))
+
+      pub frame-unreadable : not b ≡ true → 22 ≡ part-questions 13 t (descriptor-in d)
+      unfolding read-questions ask
+      frame-unreadable v = frame-inside 22 (rw (← f, not-true b v))
+
+      pub frame-passes : not b ≡ false → 0 ≡ part-questions 13 t (descriptor-in d)
+      unfolding read-questions ask
+      frame-passes v = frame-inside 0 (rw (← f, not-false b v))
 
   -- CALL's new ring
   pub new-ring-law : (n r : ℕ) → r ≡ descriptor-in d .r2 → n ≡ min (t .ring) r → n ≡ new-ring t (descriptor-in d)
@@ -97,9 +122,11 @@ smaller-within n x y z e h = omega arith
 
 pub ruleset transfers = (transfer-24, transfer-25)
 
+pub ruleset frames = (frame-starts-outside, frame-ends-outside, frame-unreadable, frame-passes)
+
 pub ruleset new-rings = (new-ring-law, smaller-within)
 
-pub ruleset by-use = (fetch-use, read-use, write-use, return-use, transfer-use, call-use)
+pub ruleset by-use = (fetch-use, read-use, write-use, return-use, transfer-use, call-use, frame-use)
 
 -- 26 TO 30; segment and words are written out, so that a test shows them
 module _ (ipr : Pointer) (n s i d : ℕ) (b : Bool) (e : b ≡ descriptor-in d .execute) where

@@ -1,6 +1,6 @@
 -- The questions of each use of a segment. Assumes nothing: these are definitions.
 use Rattle.model.specs.Words as Words
-use Rattle.model.specs.Questions.{Question, fetch-questions, read-questions, write-questions, transfer-questions, return-questions, call-questions}
+use Rattle.model.specs.Questions.{Question, fetch-questions, read-questions, write-questions, transfer-questions, return-questions, call-questions, part-questions}
 use Rattle.questions.specs.declared.Use.{Use}
 use Rattle.questions.specs.declared.Use.the-variants as Use
 
@@ -12,3 +12,4 @@ questions-of Use.Write ipr t = write-questions t
 questions-of Use.Transfer ipr t = transfer-questions ipr t
 questions-of Use.Return ipr t = return-questions t
 questions-of Use.Call ipr t = call-questions ipr t
+questions-of Use.Frame ipr t = part-questions 13 t

@@ -1,4 +1,4 @@
-// What a descriptor lets a ring do, and the questions by use, after 11 to 15: 21 to 30, each use's in order. 0 is a yes to all.
+// What a descriptor lets a ring do, and the questions by use, after 11 to 15: 21 to 30, and 15 of the rest of a frame, each use's in order. 0 is a yes to all.
 ghost use mathlib.Core.Path.{_≡_};
 ghost use Prim.Native.Nat.{_≤_, min};
 ghost use Rattle.model.specs.Words.{descriptor-in};
@@ -16,6 +16,7 @@ pub enum Use {
     Transfer,
     Return,
     Call,
+    Frame,
 }
 
 // 21 and 25: E on, and the ring in the execute bracket?
@@ -91,6 +92,23 @@ fn call_answer(ipr: Pointer, t: Pointer, d: Descriptor) -> u8
     0
 }
 
+// 15 of each of a frame's thirteen words, the first of which is at `t`, then 22.
+fn frame_answer(t: Pointer, d: Descriptor) -> u8
+    ensures { λ n. ⌜ n ≡ Questions.part-questions 13 (as-pointer t) (descriptor-in (d .0)) ⌝ }
+{
+    let length = words::descriptor::length_of(d);
+    if length <= t.word.0 {
+        return 15;
+    }
+    if length <= t.word.0 + 12 {
+        return 15;
+    }
+    if !is_readable(d, t) {
+        return 22;
+    }
+    0
+}
+
 // Those of a use by the instruction at `ipr`, of the pointer `t`.
 pub fn use_answer(by: Use, ipr: Pointer, t: Pointer, d: Descriptor) -> u8
     ensures { λ n. ⌜ n ≡ questions-of by (as-pointer ipr) (as-pointer t) (descriptor-in (d .0)) ⌝ }
@@ -102,5 +120,6 @@ pub fn use_answer(by: Use, ipr: Pointer, t: Pointer, d: Descriptor) -> u8
         Use::Transfer => transfer_answer(ipr, t, d),
         Use::Return => answer(is_executable(d, t), 25),
         Use::Call => call_answer(ipr, t, d),
+        Use::Frame => frame_answer(t, d),
     }
 }

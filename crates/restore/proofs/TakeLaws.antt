@@ -8,11 +8,11 @@ use native.Mathlib.Omega.{arith}
 use lib.Dec.{leb}
 use lib.ListN.{length, getD, set, take, drop, length-drop}
 use lib.Seq.{take-length, getD-drop, length-take-le}
-use borrow.Author.Tests.{le-ltb, lt-ltb, ltb-true, lt-leb, le-leb, not-true, not-false}
+use borrow.Author.Tests.{ltb-true, lt-leb, le-leb, not-true, not-false}
 use Rattle.model.specs.Words as Words
 use Rattle.model.specs.Words.{Pointer, descriptor-in, pointer-in}
 use Rattle.model.specs.Registers.{Dbr, Registers, machine, dbr-in}
-use Rattle.model.specs.Questions.{ask, then-ask, all, rings-at-least, dbr-fits, word-questions, may-read, read-questions, part-questions}
+use Rattle.model.specs.Questions.{all, rings-at-least, dbr-fits, word-questions, part-questions}
 use Rattle.model.specs.Program.{Program, finish, fail, faults, completes, execute, descriptor-of, absolute-address}
 use Rattle.model.specs.Step as Step
 use Rattle.model.proofs.QuestionLaws.{ask-yes, then-ask-yes, use-passes-segment}
@@ -31,38 +31,13 @@ use Rattle.state.specs.declared.End.the-variants.{Completed, Faulted}
 use Rattle.restore.specs.declared.Settled.{Settled}
 use Rattle.restore.specs.Taken.{Ends-as, Taken}
 
--- 15 OF THE LAST WORD, then 22
-module _ (t : Pointer) (d l : ℕ) (e : l ≡ descriptor-in d .length) where
-  pub part-too-short : l ≤ t .word + 12 → 15 ≡ part-questions 13 t (descriptor-in d)
-  unfolding part-questions word-questions then-ask ask
-  part-too-short h = sym (rw (← e, le-ltb (t .word + 13 - 1) l (omega arith)))
-
-  module _ (h : t .word + 12 < l) where
-    part-whole : (n : ℕ) → n ≡ read-questions t (descriptor-in d) → n ≡ part-questions 13 t (descriptor-in d)
-    unfolding part-questions word-questions then-ask ask
-    part-whole n f = f ∙ sym (rw (← e, lt-ltb (t .word + 13 - 1) l (omega arith)))
-
-    module _ (b : Bool) (f : b ≡ may-read t (descriptor-in d)) where
-      pub part-unreadable : not b ≡ true → 22 ≡ part-questions 13 t (descriptor-in d)
-      unfolding read-questions ask
-      part-unreadable g = part-whole 22 (rw (← f, not-true b g))
-
-      pub part-passes : not b ≡ false → 0 ≡ part-questions 13 t (descriptor-in d)
-      unfolding read-questions ask
-      part-passes g = part-whole 0 (rw (← f, not-false b g))
-
-pub word-fits : (d i : ℕ) → i < descriptor-in d .length → i < 65536
-unfolding descriptor-in Words.field
-word-fits d i h = omega arith
-
-pub ruleset part-answers = (part-too-short, part-unreadable, part-passes, word-fits)
-
 -- THIRTEEN WORDS of memory
 pub part-of-memory : (m : List ℕ) (s a x : ℕ) → s ≡ a → a ≡ x → take (s + 13 - s) (drop s m) ≡ take 13 (drop x m)
 part-of-memory m s a x e f = ap₂ (λ n a. take n (drop a m)) (let z : s + 13 - s ≡ 13 = omega arith in z) (e ∙ f)
 
 pub part-below : (d i : ℕ) → i + 13 ≤ descriptor-in d .length → i < 65536
-part-below d i h = word-fits d i (omega arith)
+unfolding descriptor-in Words.field
+part-below d i h = omega arith
 
 pub ruleset part-of = (part-of-memory, part-below)
 

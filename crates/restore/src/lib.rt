@@ -7,10 +7,11 @@ ghost use Rattle.model.specs.Words.{descriptor-in, pointer-in};
 ghost use Rattle.model.specs.Questions.{rings-at-least, part-questions};
 ghost use Rattle.model.specs.Step as Step;
 ghost use Rattle.words.specs.View.{as-pointer};
-ghost use Rattle.segments.specs.Translation.{as-dbr, asked-of, Segment-fits, Segment-holds, looked};
+ghost use Rattle.segments.specs.Translation.{as-dbr, Segment-fits, Segment-holds, looked};
 ghost use Rattle.state.specs.declared.End.the-variants.{Faulted};
 ghost use Rattle.state.specs.View.{as-pointers, Ready, passed-by};
 ghost use Rattle.restore.specs.Taken.{Ends-as, Taken};
+use questions::Use;
 use segments::translate::Dbr;
 use segments::translate::Translated;
 use state::Core;
@@ -23,44 +24,6 @@ use words::pointer::WordNumber;
 pub struct Settled {
     pub core: Core,
     pub end: End,
-}
-
-// 15 of each of thirteen words from `t` on, the first of which has passed, and 22.
-fn part_answer(t: Pointer, d: Descriptor) -> u8
-    requires { ⌜ t .word .0 < descriptor-in (d .0) .length ⌝ }
-    ensures { λ n. ⌜ n ≡ part-questions 13 (as-pointer t) (descriptor-in (d .0)) ⌝ }
-{
-    if words::descriptor::length_of(d) <= t.word.0 + 12 {
-        return 15;
-    }
-    if !questions::is_readable(d, t) {
-        return 22;
-    }
-    0
-}
-
-// Both, once 11 to 15 of the first are answered, wherever the descriptor was found.
-pub fn ask(x: Translated, t: Pointer) -> Translated
-    requires { ⌜ Segment-holds x (t .word .0) ⌝ }
-    ensures { λ y. ⌜ y ≡ asked-of (part-questions 13 (as-pointer t)) x ⌝ }
-{
-    match x {
-        Translated::Refused(n) => Translated::Refused(n),
-        Translated::Passed(d) => {
-            let n = part_answer(t, d);
-            if n != 0 {
-                return Translated::Refused(n);
-            }
-            Translated::Passed(d)
-        }
-    }
-}
-
-fn look(dbr: Dbr, memory: &[u64], t: Pointer) -> Translated
-    requires { ⌜ dbr .address + dbr .length ≤ length (now memory) ⌝ }
-    ensures { λ x. ⌜ looked (as-dbr dbr) (now (memory .entry)) (as-pointer t) (part-questions 13 (as-pointer t)) x ⌝ }
-{
-    ask(segments::translate::translate(dbr, memory, t), t)
 }
 
 // The thirteen words, a part of the segment's own.
@@ -132,6 +95,14 @@ fn take_up(core: Core, prs: &mut [u16; 24], frame: &[u64], words: usize, t: Poin
     }
 }
 
+// The look at its frame; a function of its own for speed (docs/PERFORMANCE.md).
+fn look(dbr: Dbr, memory: &[u64], t: Pointer) -> Translated
+    requires { ⌜ dbr .address + dbr .length ≤ length (now memory) ⌝ }
+    ensures { λ x. ⌜ looked (as-dbr dbr) (now (memory .entry)) (as-pointer t) (part-questions 13 (as-pointer t)) x ⌝ }
+{
+    segments::access::look(Use::Frame, dbr, memory, t, t)
+}
+
 pub fn restore(core: Core, prs: &mut [u16; 24], memory: &[u64], t: Pointer) -> Settled
     requires { ⌜ Ready core (now memory) ⌝ }
     ensures { λ x. ⌜ Ends-as core (as-pointers (now (prs .entry))) (now (memory .entry)) (Step.restore (length (now (memory .entry))) (as-pointer t)) x (as-pointers (now (prs .exit))) (now (memory .entry)) ⌝ }
@@ -140,14 +111,8 @@ pub fn restore(core: Core, prs: &mut [u16; 24], memory: &[u64], t: Pointer) -> S
     restored(core, prs, memory, t, look(dbr, memory, t))
 }
 
-// What it does once those are answered.
-pub fn restored(
-    core: Core,
-    prs: &mut [u16; 24],
-    memory: &[u64],
-    t: Pointer,
-    x: Translated,
-) -> Settled
+// What it does with the look's answer, wherever the descriptor was found.
+fn restored(core: Core, prs: &mut [u16; 24], memory: &[u64], t: Pointer, x: Translated) -> Settled
     requires { ⌜ Segment-fits x (length (now memory)) × Segment-holds x (t .word .0 + 12) ⌝ }
     ensures { λ y. ⌜ Ends-as core (as-pointers (now (prs .entry))) (now (memory .entry)) (passed-by x (as-pointer t) (λ d. Step.take-up (length (now (memory .entry))) (as-pointer t) (Step.registers-in (take 13 (drop (d .address + t .word .0) (now (memory .entry))))))) y (as-pointers (now (prs .exit))) (now (memory .entry)) ⌝ }
 {

@@ -43,9 +43,6 @@ module _ (q : Question) (x : Translated) where
 
 pub ruleset asks = (no-stays-no, use-refuses, use-passes)
 
-pub translated-holds : (b : Dbr) (m : List ℕ) (t : Pointer) (x : Translated) → translated b m t x → Segment-holds x (t .word)
-translated-holds b m t x s = record { inside = λ d e. (rw e at s) .inside }
-
 -- A LOOK: they are asked of what 11 to 15 have answered
 module _ (b : Dbr) (m : List ℕ) (t : Pointer) (q : Question) where
   asked-passed : (d : Descriptor) (n : ℕ) → Passes b m t (d .0) → q (descriptor-in (d .0)) ≡ n → looked b m t q (passed-unless n d)

@@ -20,7 +20,7 @@ use Rattle.segments.specs.declared.translate.Translated.the-variants.{Refused, 
 use Rattle.segments.specs.declared.access.Accessed.{Accessed}
 use Rattle.segments.specs.declared.access.Accessed.the-variants as Accessed
 use Rattle.segments.specs.Translation.{as-dbr, looked, accessed, Writes, Code-right}
-use Rattle.state.specs.View.{registers-with, machine-with, ended, Does, Does-with-any-prs, Completes, Finishes, faulted-after, worded-by, passed-by, Does-after-read, Does-in-any-memory, Does-after-look, Does-after-write}
+use Rattle.state.specs.View.{registers-with, machine-with, ended, Does, Does-with-any-prs, Completes, Finishes, faulted-after, worded-by, passed-by, Does-anywhere, Does-after-read, Does-in-any-memory, Does-after-look, Does-after-write}
 use Rattle.segments.proofs.UseLaws.{looked-right, look-refused, look-passed, read-refused, read-passed, write-faults, write-completes}
 
 module _ (c : Core) (d : Descriptor) (ps : List Pointer) (m : List ℕ) (p : Program) (x : After) where
@@ -69,26 +69,20 @@ unfolding execute machine
 does-finish c d ps m f x ps-now h =
     does-stay c d ps m _ x ps-now m (h .completed) (h .code-same) (h .ring-same) (advanced (f (registers-with c ps))) (h .registers-same) refl
 
--- A READ
-module _ (c : Core) (d : Descriptor) (m : List ℕ) (t : Pointer) (q : Question) (y : Accessed) (s : accessed (as-dbr (c .dbr)) m t q y)
-    (g : Registers → Words.Descriptor → (word : ℕ) → Program) (x : After) where
-  pub does-refused-read : (n : ℕ) (u : Code.Pointer) → y ≡ Accessed.Refused n → x ≡ faulted-after c d n u → as-pointer u ≡ t → Does-with-any-prs c d m (λ r. read q t (g r)) x m
-  does-refused-read n u e f h =
-      record { does = λ ps. does-fault c d ps m _ x n u f (read-refused (machine-with c ps m) t q y s (g (registers-with c ps)) n e ∙ ap (faults n) (sym h)) }
-
-  pub read-goes-on : (e : Descriptor) (w : ℕ) → y ≡ Accessed.Word e w → (ps : List Pointer) →
-      execute (machine-with c ps m) (read q t (g (registers-with c ps))) ≡ execute (machine-with c ps m) (g (registers-with c ps) (descriptor-in (e .0)) w)
-  read-goes-on e w f ps = read-passed (machine-with c ps m) t q y s (g (registers-with c ps)) e w f
-
--- answered, the program is what is left of it
-pub read-answered : (c : Core) (d : Descriptor) (m : List ℕ) (t : Pointer) (q : Question) (y : Accessed) → accessed (as-dbr (c .dbr)) m t q y → (g : Registers → Words.Descriptor → (word : ℕ) → Program) (x : After) →
-    Does-after-read c d t y g x → Does-with-any-prs c d m (λ r. read q t (g r)) x m
+-- A READ, answered: the program is what is left of it
+pub read-goes-on : (c : Core) (d : Descriptor) (m : List ℕ) (t : Pointer) (q : Question) (y : Accessed) → accessed (as-dbr (c .dbr)) m t q y → (g : Registers → Words.Descriptor → (word : ℕ) → Program) (x : After) (m-now : List ℕ) →
+    Does-with-any-prs c d m (λ r. worded-by y t (g r)) x m-now → Does-with-any-prs c d m (λ r. read q t (g r)) x m-now
 unfolding worded-by execute
-read-answered c d m t q y s g x h = record { does = λ ps. does-as c d ps m _ x ps m _ (by-answer ps y s) (h .does ps m) }
+read-goes-on c d m t q y s g x m-now h = record { does = λ ps. does-as c d ps m _ x ps m-now _ (by-answer ps y s) (h .does ps) }
   where
     by-answer : (ps : List Pointer) (y : Accessed) → accessed (as-dbr (c .dbr)) m t q y → execute (machine-with c ps m) (read q t (g (registers-with c ps))) ≡ execute (machine-with c ps m) (worded-by y t (g (registers-with c ps)))
     by-answer ps (Accessed.Refused n) s = read-refused (machine-with c ps m) t q (Accessed.Refused n) s (g (registers-with c ps)) n refl
     by-answer ps (Accessed.Word e w) s = read-passed (machine-with c ps m) t q (Accessed.Word e w) s (g (registers-with c ps)) e w refl
+
+-- where that leaves memory alone
+pub read-answered : (c : Core) (d : Descriptor) (m : List ℕ) (t : Pointer) (q : Question) (y : Accessed) → accessed (as-dbr (c .dbr)) m t q y → (g : Registers → Words.Descriptor → (word : ℕ) → Program) (x : After) →
+    Does-after-read c d t y g x → Does-with-any-prs c d m (λ r. read q t (g r)) x m
+read-answered c d m t q y s g x h = read-goes-on c d m t q y s g x m (record { does = λ ps. h .does ps m })
 
 -- and each answer by itself
 module _ (c : Core) (d : Descriptor) (t : Pointer) (y : Accessed) (g : Registers → Words.Descriptor → (word : ℕ) → Program) (x : After) where
@@ -96,9 +90,11 @@ module _ (c : Core) (d : Descriptor) (t : Pointer) (y : Accessed) (g : Registers
   unfolding worded-by execute
   after-read-refused n u e f h = record { does = λ ps m. rw e (does-fault c d ps m _ x n u f (ap (faults n) (sym h))) }
 
-  pub after-read-goes-on : (e : Descriptor) (w : ℕ) → y ≡ Accessed.Word e w → ((ps : List Pointer) (m : List ℕ) → Does c d ps m (g (registers-with c ps) (descriptor-in (e .0)) w) x ps m) → Does-after-read c d t y g x
+  pub after-read-goes-on : (e : Descriptor) (w : ℕ) → y ≡ Accessed.Word e w → Does-anywhere c d (λ r. g r (descriptor-in (e .0)) w) x → Does-after-read c d t y g x
   unfolding worded-by
-  after-read-goes-on e w f h = record { does = λ ps m. rw f (h ps m) }
+  after-read-goes-on e w f h = record { does = λ ps m. rw f (h .does ps m) }
+
+pub ruleset after-reads = (after-read-refused, after-read-goes-on)
 
 -- A LOOK
 pub look-answered : (c : Core) (d : Descriptor) (ps : List Pointer) (m : List ℕ) (t : Pointer) (q : Question) (y : Translated) → looked (as-dbr (c .dbr)) m t q y → (g : Words.Descriptor → Program) (x : After) (ps-now : List Pointer) →

@@ -101,9 +101,13 @@ unfoldable pub passed-by : Translated → Words.Pointer → (Words.Descriptor �
 passed-by (Refused n) t f = fail n t
 passed-by (Passed d) t f = f (Words.descriptor-in (d .0))
 
--- the answer to it after a read, in any memory and with any PRs, which it leaves alone
-pub record Does-after-read (c : Core) (code : Descriptor) (t : Words.Pointer) (y : Accessed) (f : Registers.Registers → Words.Descriptor → (word : ℕ) → Program) (x : After) : Type 0 where
-  pub does : (ps : List Words.Pointer) (m : List ℕ) → Does c code ps m (worded-by y t (f (registers-with c ps))) x ps m
+-- the answer to it with any PRs and in any memory, which it leaves alone
+pub record Does-anywhere (c : Core) (code : Descriptor) (p : Registers.Registers → Program) (x : After) : Type 0 where
+  pub does : (ps : List Words.Pointer) (m : List ℕ) → Does c code ps m (p (registers-with c ps)) x ps m
+
+-- after a read
+abbrev pub Does-after-read : Core → Descriptor → Words.Pointer → Accessed → (Registers.Registers → Words.Descriptor → (word : ℕ) → Program) → After → Type 0
+Does-after-read c code t y f x = Does-anywhere c code (λ r. worded-by y t (f r)) x
 
 -- the answer to a rest that uses no memory, in any; a code descriptor that was right is right again where `right` holds of the memory's size
 pub record Does-in-any-memory (c : Core) (code : Descriptor) (ps : List Words.Pointer) (p : Program) (right : (size : ℕ) → Type 0) (x : After) (ps-now : List Words.Pointer) : Type 0 where

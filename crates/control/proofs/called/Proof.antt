@@ -1,7 +1,6 @@
 -- `called` meets its contract. Assumes nothing.
-use mathlib.Core.Path.{refl}
 use Rattle.state.specs.View.{pr-of}
-use Rattle.control.proofs.MoveLaws.{call-refused, call-enters}
+use Rattle.control.proofs.MoveLaws.{ring-holds, call-refused, call-enters}
 use borrow.Author.Needs.{needs}
 use Rattle.control.proofs.called.Statement.{statement}
 use Rattle.control.proofs.called.Tie as tie
@@ -16,17 +15,17 @@ enum-known-x-2 : tie.Need-enum-known-x-2
 enum-known-x-2 c = search needs
 
 set-stack-base-requires : tie.Need-set-stack-base-requires
-set-stack-base-requires c κs = c .before .before .before .before .before .pre .within _ _ (c .before .before .x2 .given .1)
+set-stack-base-requires c κs = search (needs, ring-holds)
 
 entered-requires : tie.Need-entered-requires
 entered-requires c κs = search needs
 
 returns : tie.Need-returns
-returns c = call-refused _ _ _ _ _ _ _ _ _ (c .before .before .x .given .1) (c .faulted .ensures) refl
+returns c = search (needs, call-refused)
 
 returns-2 : tie.Need-returns-2
 unfolding pr-of
-returns-2 c = call-enters _ _ _ _ _ _ _ _ _ (c .before .before .before .before .x2 .given .1) (c .before .set-stack-base .ensures) _ (c .entered .ensures) refl
+returns-2 c = search (needs, call-enters)
 
 pub called-spec : {M : Type 1} → statement M
 called-spec =

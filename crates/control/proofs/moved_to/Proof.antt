@@ -1,5 +1,4 @@
 -- `moved_to` meets its contract. Assumes nothing.
-use mathlib.Core.Path.{refl}
 use Rattle.state.proofs.DoesLaws.{after-look-refused}
 use Rattle.control.proofs.MoveLaws.{transfer-enters}
 use borrow.Author.Needs.{needs}
@@ -19,10 +18,10 @@ entered-requires : tie.Need-entered-requires
 entered-requires c κs = search needs
 
 returns : tie.Need-returns
-returns c = λ ps. after-look-refused _ _ _ _ _ _ _ _ _ _ (c .before .before .x .given .1) (c .faulted .ensures) refl
+returns c = λ ps. search (needs, after-look-refused)
 
 returns-2 : tie.Need-returns-2
-returns-2 c = λ ps. transfer-enters _ _ _ _ _ _ _ (c .before .before .x2 .given .1) _ (c .entered .ensures) refl
+returns-2 c = λ ps. search (needs, transfer-enters)
 
 pub moved-to-spec : {M : Type 1} → statement M
 moved-to-spec =

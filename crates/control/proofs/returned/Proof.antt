@@ -1,5 +1,4 @@
 -- `returned` meets its contract. Assumes nothing.
-use mathlib.Core.Path.{refl}
 use Rattle.state.proofs.DoesLaws.{after-look-refused}
 use Rattle.control.proofs.MoveLaws.{return-enters}
 use borrow.Author.Needs.{needs}
@@ -22,10 +21,10 @@ entered-requires : tie.Need-entered-requires
 entered-requires c κs = search needs
 
 returns : tie.Need-returns
-returns c = after-look-refused _ _ _ _ _ _ _ _ _ _ (c .before .before .x .given .1) (c .faulted .ensures) refl
+returns c = search (needs, after-look-refused)
 
 returns-2 : tie.Need-returns-2
-returns-2 c = return-enters _ _ _ _ _ _ _ (c .before .before .before .before .x2 .given .1) _ (c .entered .ensures) refl _ (c .before .raise-rings .ensures)
+returns-2 c = search (needs, return-enters)
 
 pub returned-spec : {M : Type 1} → statement M
 returned-spec =

@@ -52,6 +52,12 @@ enum-told-6 c = search (needs, by-use)
 call-answer-requires : tie.Need-call-answer-requires
 call-answer-requires c κs = search (needs, by-use)
 
+enum-told-7 : tie.Need-enum-told-7
+enum-told-7 c = search (needs, by-use)
+
+frame-answer-requires : tie.Need-frame-answer-requires
+frame-answer-requires c κs = search (needs, by-use)
+
 returns : tie.Need-returns
 returns c = search (needs, by-use)
 
@@ -69,6 +75,9 @@ returns-5 c = search (needs, by-use)
 
 returns-6 : tie.Need-returns-6
 returns-6 c = search (needs, by-use)
+
+returns-7 : tie.Need-returns-7
+returns-7 c = search (needs, by-use)
 
 pub use-answer-spec : {M : Type 1} → statement M
 use-answer-spec =
@@ -90,9 +99,12 @@ use-answer-spec =
     answer-requires-4
     enum-told-6
     call-answer-requires
+    enum-told-7
+    frame-answer-requires
     returns
     returns-2
     returns-3
     returns-4
     returns-5
-    returns-6)
+    returns-6
+    returns-7)

@@ -1,5 +1,4 @@
 -- `restored` meets its contract. Assumes nothing.
-use mathlib.Core.Path.{refl}
 use Rattle.restore.proofs.TakeLaws.{restorings, restored-refused, restored-taken}
 use borrow.Author.Needs.{needs}
 use Rattle.restore.proofs.restored.Statement.{statement}
@@ -21,10 +20,10 @@ take-up-requires : tie.Need-take-up-requires
 take-up-requires c κs = search (needs, restorings)
 
 returns : tie.Need-returns
-returns c = restored-refused _ _ _ _ _ _ _ _ (c .before .before .x .given .1) (c .faulted .ensures) refl
+returns c = search (needs, restored-refused)
 
 returns-2 : tie.Need-returns-2
-returns-2 c = restored-taken _ _ _ _ _ _ _ (c .before .before .before .before .x2 .given .1) _ (c .before .frame-at .ensures) _ (c .take-up .ensures)
+returns-2 c = search (needs, restored-taken)
 
 pub restored-spec : {M : Type 1} → statement M
 restored-spec =

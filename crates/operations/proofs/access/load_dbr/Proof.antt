@@ -4,6 +4,7 @@ use Rattle.state.proofs.DoesLaws.{read-answered}
 use borrow.Author.Needs.{needs}
 use Rattle.operations.proofs.access.load_dbr.Statement.{statement}
 use Rattle.operations.proofs.access.load_dbr.Tie as tie
+use Rattle.operations.specs.Rest.{sets-dbr}
 
 read-requires : tie.Need-read-requires
 read-requires c κs = search needs
@@ -12,7 +13,7 @@ dbr-loaded-requires : tie.Need-dbr-loaded-requires
 dbr-loaded-requires c κs = search needs
 
 returns : tie.Need-returns
-unfolding Step.load-dbr
+unfolding Step.load-dbr sets-dbr
 returns c = read-answered _ _ _ _ _ _ (c .before .read .ensures) _ _ (c .dbr-loaded .ensures)
 
 pub load-dbr-spec : {M : Type 1} → statement M
