@@ -1,18 +1,18 @@
 // A set of addresses below 8,192, a bit each: those that a WD record has had.
 ghost use Rattle.std.specs.Prelude.{◌≡◌, ◌||◌, ◌<◌, eqb, length};
-ghost use Rattle.addresses.specs.Set.{in-set, Put-in};
+ghost use Rattle.addresses.specs.Set.{in_set, PutIn};
 
 // 128 words of 64 bits.
 pub fn is_in(set: &[u64], address: usize) -> bool
     requires { (length set.now ≡ 128) × (address < 8192) }
-    ensures { result ≡ in-set set.now address }
+    ensures { result ≡ in_set set.now address }
 {
     (set[address / 64] >> (address % 64)) % 2 == 1
 }
 
 pub fn put_in(set: &mut [u64], address: usize)
     requires { (length set.old ≡ 128) × (address < 8192) }
-    ensures { Put-in address set.old set.new }
+    ensures { PutIn address set.old set.new }
 {
     let i = address / 64;
     set[i] = set[i] | (1 << (address % 64));

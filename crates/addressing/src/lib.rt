@@ -1,12 +1,12 @@
 // The effective address: IPR- and PR-relative, then through at most 64 pointer words.
 ghost use Rattle.std.specs.Prelude.{◌≡◌, true, ◌+◌, ◌≤◌, length, take, drop};
-ghost use Rattle.model.specs.Words.{instruction-in, descriptor-in};
-ghost use Rattle.model.specs.Questions.{all, pointer-in-range};
+ghost use Rattle.model.specs.Words.{instruction_in, descriptor_in};
+ghost use Rattle.model.specs.Questions.{all, pointer_in_range};
 ghost use Rattle.model.specs.Step as Step;
-ghost use Rattle.words.specs.View.{as_pointer, Pointer-within};
-ghost use Rattle.segments.specs.Translation.{as-dbr};
-ghost use Rattle.state.specs.View.{as-pointers, as-registers};
-ghost use Rattle.addressing.specs.Address.{lent, tpr-of, Kept-right, looked, found, word-answer, Walked, Addressed};
+ghost use Rattle.words.specs.View.{as_pointer, PointerWithin};
+ghost use Rattle.segments.specs.Translation.{as_dbr};
+ghost use Rattle.state.specs.View.{as_pointers, as_registers};
+ghost use Rattle.addressing.specs.Address.{lent, tpr_of, KeptRight, looked, found, word_answer, Walked, Addressed};
 
 use segments::translate::{Dbr, Translated};
 use state::Core;
@@ -39,7 +39,7 @@ enum Found {
 // TPR where a pointer word leads in a ring: its own ring is left out.
 pub fn tpr(word: u64, ring: u64) -> Pointer
     requires { ring ≤ 7 }
-    ensures { (as_pointer result ≡ tpr-of word ring) × Pointer-within result }
+    ensures { (as_pointer result ≡ tpr_of word ring) × PointerWithin result }
 {
     let mut p = words::pointer::decode(word);
     p.ring = ring;
@@ -49,7 +49,7 @@ pub fn tpr(word: u64, ring: u64) -> Pointer
 // The ring through a pointer word read at `t`: the largest of the three.
 pub fn next_ring(t: Pointer, d: Descriptor, w: u64) -> u64
     requires { t.ring ≤ 7 }
-    ensures { (result ≡ (Step.next_address (as_pointer t) (descriptor-in d.0) w).ring) × (result ≤ 7) }
+    ensures { (result ≡ (Step.next_address (as_pointer t) (descriptor_in d.0) w).ring) × (result ≤ 7) }
 {
     let p = words::pointer::decode(w);
     let r1 = words::descriptor::r1_of(d);
@@ -97,7 +97,7 @@ fn with_first(kept: Kept, segment: u64, descriptor: Descriptor) -> Kept
 
 // 11 to 14 of a segment. They aren't asked again of one that is kept: nothing is written along a chain.
 fn find(descriptors: &[u64], words: usize, kept: Kept, segment: u64) -> Found
-    requires { (segment ≤ 4095) × Kept-right descriptors.now words kept }
+    requires { (segment ≤ 4095) × KeptRight descriptors.now words kept }
     ensures { found descriptors.now words segment result }
 {
     if segment == kept.segment {
@@ -115,7 +115,7 @@ fn find(descriptors: &[u64], words: usize, kept: Kept, segment: u64) -> Found
 
 // 15 and 22, of a descriptor that has passed; 0 is a yes to all.
 fn word_answer(d: Descriptor, t: Pointer) -> u8
-    ensures { result ≡ word-answer (as_pointer t) (descriptor-in d.0) }
+    ensures { result ≡ word_answer (as_pointer t) (descriptor_in d.0) }
 {
     if words::descriptor::length_of(d) <= t.word.0 {
         return 15;
@@ -128,7 +128,7 @@ fn word_answer(d: Descriptor, t: Pointer) -> u8
 
 // Through pointer words, while I is on; 31 is asked first. From turn to turn the pointer word itself is carried, and the ring.
 fn walk(descriptors: &[u64], memory: &[u64], first: Pointer) -> Address
-    requires { Pointer-within first }
+    requires { PointerWithin first }
     ensures { Walked (lent descriptors.now) memory.now (as_pointer first) result }
 {
     let mut left: u64 = 64;
@@ -169,16 +169,16 @@ fn walk(descriptors: &[u64], memory: &[u64], first: Pointer) -> Address
 
 // TPR by way of pointer words. Where the descriptor segment lies and ends is worked out once.
 pub fn effective(dbr: Dbr, memory: &[u64], first: Pointer) -> Address
-    requires { (dbr.address + dbr.length ≤ length memory.now) × Pointer-within first }
-    ensures { Addressed (as-dbr dbr) memory.now (as_pointer first) result }
+    requires { (dbr.address + dbr.length ≤ length memory.now) × PointerWithin first }
+    ensures { Addressed (as_dbr dbr) memory.now (as_pointer first) result }
 {
     walk(descriptors_of(dbr, memory), memory, first)
 }
 
 // P off: from IPR. P on: from the PR, in the larger of the two rings.
 pub fn first_address(core: Core, prs: &[u16; 24], w: u64) -> Pointer
-    requires { (core.ipr.ring ≤ 7) × (core.ipr.segment.0 ≤ 4095) × (all pointer-in-range (as-pointers prs.now) ≡ true) }
-    ensures { (as_pointer result ≡ Step.first-address (instruction-in w) (as-registers core prs.now)) × Pointer-within result }
+    requires { (core.ipr.ring ≤ 7) × (core.ipr.segment.0 ≤ 4095) × (all pointer_in_range (as_pointers prs.now) ≡ true) }
+    ensures { (as_pointer result ≡ Step.first_address (instruction_in w) (as_registers core prs.now)) × PointerWithin result }
 {
     let ipr = core.ipr;
     let by = words::instruction::offset(w);

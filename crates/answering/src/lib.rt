@@ -1,10 +1,10 @@
 // A step's answers (02, L7): at each place where it asks for a descriptor, what it does with the one that was found.
 ghost use Rattle.std.specs.Prelude.{◌≡◌, ◌+◌, ◌*◌, ◌<◌, ◌≤◌, true, cond};
 ghost use Rattle.pending.specs.Left.{Waits};
-ghost use Rattle.answering.specs.Answer.{Performs, Transfers, Leads, Follows, Obeys, Restores, Can-deliver, Delivers-at, Can-answer, Answers_at, Answered};
-ghost use Rattle.state.specs.View.{as-pointers};
-ghost use Rattle.words.specs.View.{Pointer-within};
-ghost use Rattle.model.specs.Questions.{all, pointer-in-range};
+ghost use Rattle.answering.specs.Answer.{Performs, Transfers, Leads, Follows, Obeys, Restores, CanDeliver, DeliversAt, CanAnswer, Answers_at, Answered};
+ghost use Rattle.state.specs.View.{as_pointers};
+ghost use Rattle.words.specs.View.{PointerWithin};
+ghost use Rattle.model.specs.Questions.{all, pointer_in_range};
 ghost use Rattle.pending.specs.declared.Place.TheVariants.{Fetch, Operand, Save};
 ghost use Rattle.pending.specs.declared.Place.TheVariants as Place;
 ghost use Rattle.model.specs.Opcodes.{sum};
@@ -51,8 +51,8 @@ fn performing(
     w: u64,
     t: Pointer,
 ) -> Pending
-    requires { (far.count < budget) × (far.total ≤ 64 * far.count) × (far.read ≤ 64) × Pointer-within t }
-    ensures { Performs delivery budget core far w t result (as-pointers prs.old) (as-pointers prs.new) }
+    requires { (far.count < budget) × (far.total ≤ 64 * far.count) × (far.read ≤ 64) × PointerWithin t }
+    ensures { Performs delivery budget core far w t result (as_pointers prs.old) (as_pointers prs.new) }
 {
     let ipr = core.ipr;
     let number = opcode(w);
@@ -94,8 +94,8 @@ fn leading(
     indirect: bool,
     t: Pointer,
 ) -> Pending
-    requires { (far.count < budget) × (far.total ≤ 64 * far.count) × (far.read ≤ 64) × Pointer-within t }
-    ensures { Leads delivery budget core far w left indirect t result (as-pointers prs.old) (as-pointers prs.new) }
+    requires { (far.count < budget) × (far.total ≤ 64 * far.count) × (far.read ≤ 64) × PointerWithin t }
+    ensures { Leads delivery budget core far w left indirect t result (as_pointers prs.old) (as_pointers prs.new) }
 {
     if !indirect {
         return performing(delivery, core, prs, far, budget, w, t);
@@ -115,8 +115,8 @@ fn obeying(
     budget: u32,
     w: u64,
 ) -> Pending
-    requires { (far.count < budget) × (far.total ≤ 64 * far.count) × (far.read ≤ 64) × Pointer-within core.ipr × (all pointer-in-range (as-pointers prs.old) ≡ true) }
-    ensures { Obeys delivery budget core far w result (as-pointers prs.old) (as-pointers prs.new) }
+    requires { (far.count < budget) × (far.total ≤ 64 * far.count) × (far.read ≤ 64) × PointerWithin core.ipr × (all pointer_in_range (as_pointers prs.old) ≡ true) }
+    ensures { Obeys delivery budget core far w result (as_pointers prs.old) (as_pointers prs.new) }
 {
     let ipr = core.ipr;
     let entry = opcodes::table::entry_of(opcode(w));
@@ -138,8 +138,8 @@ fn fetched(
     budget: u32,
     d: Descriptor,
 ) -> Pending
-    requires { Can-answer delivery budget core far Fetch prs.old memory.now }
-    ensures { Answers_at delivery budget core far Fetch d.0 (as-pointers prs.old) memory.now result (as-pointers prs.new) memory.now }
+    requires { CanAnswer delivery budget core far Fetch prs.old memory.now }
+    ensures { Answers_at delivery budget core far Fetch d.0 (as_pointers prs.old) memory.now result (as_pointers prs.new) memory.now }
 {
     let ipr = core.ipr;
     let z = word_by(
@@ -166,8 +166,8 @@ fn following(
     d: Descriptor,
     v: u64,
 ) -> Pending
-    requires { (far.count < budget) × (far.total ≤ 64 * far.count) × (far.read + left ≤ 64) × (1 ≤ left) × Pointer-within t }
-    ensures { Follows delivery budget core far w left t d.0 v result (as-pointers prs.old) (as-pointers prs.new) }
+    requires { (far.count < budget) × (far.total ≤ 64 * far.count) × (far.read + left ≤ 64) × (1 ≤ left) × PointerWithin t }
+    ensures { Follows delivery budget core far w left t d.0 v result (as_pointers prs.old) (as_pointers prs.new) }
 {
     let next = addressing::tpr(v, addressing::next_ring(t, d, v));
     let more = Far {
@@ -202,8 +202,8 @@ fn pointed(
     left: u64,
     t: Pointer,
 ) -> Pending
-    requires { Can-answer delivery budget core far (Place.Pointer w left t) prs.old memory.now }
-    ensures { Answers_at delivery budget core far (Place.Pointer w left t) d.0 (as-pointers prs.old) memory.now result (as-pointers prs.new) memory.now }
+    requires { CanAnswer delivery budget core far (Place.Pointer w left t) prs.old memory.now }
+    ensures { Answers_at delivery budget core far (Place.Pointer w left t) d.0 (as_pointers prs.old) memory.now result (as_pointers prs.new) memory.now }
 {
     let z = word_by(pending::judged(Use::Read, d, memory.len(), t, t), memory, t);
     match z {
@@ -223,8 +223,8 @@ fn restoring(
     d: Descriptor,
     t: Pointer,
 ) -> Pending
-    requires { (far.count < budget) × (far.total ≤ 64 * far.count) × (far.read ≤ 64) × Pointer-within t }
-    ensures { Restores delivery budget core far d.0 t (as-pointers prs.old) memory.now result (as-pointers prs.new) }
+    requires { (far.count < budget) × (far.total ≤ 64 * far.count) × (far.read ≤ 64) × PointerWithin t }
+    ensures { Restores delivery budget core far d.0 t (as_pointers prs.old) memory.now result (as_pointers prs.new) }
 {
     let x = pending::judged(Use::Frame, d, memory.len(), t, t);
     let y = restore::restored(core, prs, memory, t, x);
@@ -245,8 +245,8 @@ fn operated(
     w: u64,
     t: Pointer,
 ) -> Pending
-    requires { Can-answer delivery budget core far (Operand w t) prs.old memory.old }
-    ensures { Answers_at delivery budget core far (Operand w t) d.0 (as-pointers prs.old) memory.old result (as-pointers prs.new) memory.new }
+    requires { CanAnswer delivery budget core far (Operand w t) prs.old memory.old }
+    ensures { Answers_at delivery budget core far (Operand w t) d.0 (as_pointers prs.old) memory.old result (as_pointers prs.new) memory.new }
 {
     let a = core.a;
     let number = opcode(w);
@@ -281,8 +281,8 @@ fn delivered(
     n: u8,
     t: Pointer,
 ) -> Pending
-    requires { Can-deliver budget core far start t prs.now memory.old }
-    ensures { Delivers-at delivery budget core far start n t prs.now memory.old result memory.new }
+    requires { CanDeliver budget core far start t prs.now memory.old }
+    ensures { DeliversAt delivery budget core far start n t prs.now memory.old result memory.new }
 {
     let clears = pending::is_described(core.dbr, start, 13);
     frames::write_frame(core, prs, memory, start as usize, n, t);
@@ -302,8 +302,8 @@ fn saved(
     n: u8,
     t: Pointer,
 ) -> Pending
-    requires { Can-answer delivery budget core far (Save n t) prs.now memory.old }
-    ensures { Answers_at delivery budget core far (Save n t) d.0 (as-pointers prs.now) memory.old result (as-pointers prs.now) memory.new }
+    requires { CanAnswer delivery budget core far (Save n t) prs.now memory.old }
+    ensures { Answers_at delivery budget core far (Save n t) d.0 (as_pointers prs.now) memory.old result (as_pointers prs.now) memory.new }
 {
     let save = delivery.save as u64;
     let last = Pointer {
@@ -330,8 +330,8 @@ fn answered(
     budget: u32,
     d: Descriptor,
 ) -> Pending
-    requires { Can-answer delivery budget core far place prs.old memory.old }
-    ensures { Answers_at delivery budget core far place d.0 (as-pointers prs.old) memory.old result (as-pointers prs.new) memory.new }
+    requires { CanAnswer delivery budget core far place prs.old memory.old }
+    ensures { Answers_at delivery budget core far place d.0 (as_pointers prs.old) memory.old result (as_pointers prs.new) memory.new }
 {
     match place {
         Place::Fetch => fetched(delivery, core, prs, memory, far, budget, d),
@@ -364,8 +364,8 @@ pub fn answer(
     prs: &mut [u16; 24],
     memory: &mut [u64],
 ) -> Pending
-    requires { Waits delivery budget x (as-pointers prs.old) memory.old × (x.asks ≡ true) × (s.segment ≡ x.segment) }
-    ensures { Answered delivery budget x s (as-pointers prs.old) memory.old result (as-pointers prs.new) memory.new }
+    requires { Waits delivery budget x (as_pointers prs.old) memory.old × (x.asks ≡ true) × (s.segment ≡ x.segment) }
+    ensures { Answered delivery budget x s (as_pointers prs.old) memory.old result (as_pointers prs.new) memory.new }
 {
     let core = x.core;
     let word = pending::word_of(s, core, memory);

@@ -1,7 +1,7 @@
 // A reply as numbers, and back.
 ghost use Rattle.std.specs.Prelude.{◌≡◌};
-ghost use Rattle.state.specs.Reply.{Reply-within};
-ghost use Rattle.answers.specs.Answer.{Answers-with, Answer-fits, Replies};
+ghost use Rattle.state.specs.Reply.{ReplyWithin};
+ghost use Rattle.answers.specs.Answer.{AnswersWith, AnswerFits, Replies};
 
 use state::Core;
 use state::reply::Reply;
@@ -31,8 +31,8 @@ fn no_pointer() -> Pointer
 }
 
 pub fn answer_of(reply: Reply, core: Core, pointers: u64) -> Answered
-    requires { Reply-within reply }
-    ensures { Answers-with reply core pointers result }
+    requires { ReplyWithin reply }
+    ensures { AnswersWith reply core pointers result }
 {
     match reply {
         Reply::Refused(n) => Answered {
@@ -72,7 +72,7 @@ pub fn answer_of(reply: Reply, core: Core, pointers: u64) -> Answered
 
 // The reply that the numbers stand for.
 pub fn reply_of(x: Answered) -> Reply
-    requires { Answer-fits x }
+    requires { AnswerFits x }
     ensures { Replies x result }
 {
     let kind = x.kind;

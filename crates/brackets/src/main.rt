@@ -2,10 +2,10 @@
 // standard output.
 ghost use Rattle.std.specs.Prelude.{◌≡◌, ◌≤◌, ◌+◌, ◌*◌, ◌/◌, ◌%◌, length};
 ghost use Rattle.model.specs.Image.{number_at, checked};
-ghost use Rattle.model.specs.Listing.{refusal-line};
-ghost use Rattle.model.specs.Brackets.{image-bracketed};
+ghost use Rattle.model.specs.Listing.{refusal_line};
+ghost use Rattle.model.specs.Brackets.{image_bracketed};
 ghost use Rattle.model.specs.Brackets as Brackets;
-ghost use Rattle.host.specs.Record.{machine-of, delivery-of};
+ghost use Rattle.host.specs.Record.{machine_of, delivery_of};
 ghost use Rattle.tables.specs.View.{as_row, as_rows};
 ghost use Rattle.brackets.specs.Printed.{Printed};
 
@@ -71,7 +71,7 @@ fn read_rows(rows: &mut [[u16; 5]], count: usize) -> Read {
 
 fn put_refusal(text: &mut [u8], number: u8) -> usize
     requires { 64 ≤ length text.old }
-    ensures { Printed (refusal-line number) text.old text.new result }
+    ensures { Printed (refusal_line number) text.old text.new result }
 {
     endings::put_last_line(text, 0, Reply::Refused(number), 0)
 }
@@ -85,7 +85,7 @@ fn put_answer(
     rows: &[[u16; 5]],
 ) -> usize
     requires { 78 + 14 * length memory.old ≤ length text.old }
-    ensures { Printed (image-bracketed (as_rows rows.now) (checked (delivery-of registers) (machine-of registers memory.old) budget)) text.old text.new result }
+    ensures { Printed (image_bracketed (as_rows rows.now) (checked (delivery_of registers) (machine_of registers memory.old) budget)) text.old text.new result }
 {
     let n = host::start::record_answer(registers, memory);
     if n != 0 {

@@ -1,11 +1,11 @@
 // Bytes moved within a buffer, and bytes that become zero.
 ghost use Rattle.std.specs.Prelude.{◌≡◌, ◌+◌, ◌≤◌, length};
-ghost use Rattle.buffers.specs.Move.{bytes-moved, cleared};
+ghost use Rattle.buffers.specs.Move.{bytes_moved, cleared};
 
 // `size` bytes at `from` go towards the front, to `to`; all others stay.
 pub fn move_down(buffer: &mut [u8], from: usize, to: usize, size: usize)
     requires { (to ≤ from) × (from + size ≤ length buffer.old) }
-    ensures { buffer.new ≡ bytes-moved from to size buffer.old }
+    ensures { buffer.new ≡ bytes_moved from to size buffer.old }
 {
     if from == to {
         return;
@@ -20,7 +20,7 @@ pub fn move_down(buffer: &mut [u8], from: usize, to: usize, size: usize)
 // `size` bytes at `from` go towards the end, to `to`, the last of them first; all others stay.
 pub fn move_up(buffer: &mut [u8], from: usize, to: usize, size: usize)
     requires { (from ≤ to) × (to + size ≤ length buffer.old) }
-    ensures { buffer.new ≡ bytes-moved from to size buffer.old }
+    ensures { buffer.new ≡ bytes_moved from to size buffer.old }
 {
     let mut left = size;
     while left > 0 {

@@ -12,9 +12,9 @@ use mir.Syntax.{w64}
 use mir.Val.{SFits, to_z, of_z}
 use mir.Facts.{to_z_pos, to_z-of_z}
 use Rattle.model.specs.Bench as Bench
-use Rattle.model.specs.Bench.{negated, call-refused, call-wrote}
+use Rattle.model.specs.Bench.{negated, call_refused, call_wrote}
 use Rattle.calls.specs.declared.Called.{Called}
-use Rattle.calls.specs.Call.{as-answer, Called-as}
+use Rattle.calls.specs.Call.{as_answer, CalledAs}
 
 -- A REFUSAL: the number negated fits
 difference : (n : ℕ) → pos 0 -ℤ pos n ≡ negated n
@@ -32,55 +32,55 @@ module _ (n : ℕ) (h : n < 256) where
   subtracted : pos 0 -ℤ to_z w64 n ≡ negated n
   subtracted = ap (λ (z : ℤ). pos 0 -ℤ z) (to_z_pos w64 (let e : n < 2 ^ 63 = omega arith in e)) ∙ difference n
 
-  pub refusal-fits : SFits w64 (pos 0 -ℤ to_z w64 n)
-  refusal-fits = subst (SFits w64) (sym subtracted) (negated_fits n h)
+  pub refusal_fits : SFits w64 (pos 0 -ℤ to_z w64 n)
+  refusal_fits = subst (SFits w64) (sym subtracted) (negated_fits n h)
 
-  pub refusal-same : to_z w64 (of_z w64 (pos 0 -ℤ to_z w64 n)) ≡ negated n
-  refusal-same = to_z-of_z refusal-fits ∙ subtracted
+  pub refusal_same : to_z w64 (of_z w64 (pos 0 -ℤ to_z w64 n)) ≡ negated n
+  refusal_same = to_z-of_z refusal_fits ∙ subtracted
 
 -- THE SIGNED NUMBER
 module _ (x : Called) where
-  pub called-refused : (x.number ≡ 0 → ⊥) → x.number < 256 → to_z w64 (of_z w64 (pos 0 -ℤ to_z w64 x.number)) ≡ as-answer x
-  unfolding as-answer
-  called-refused h f = refusal-same x.number f ∙ sym (ap (λ b. cond b (pos x.length) (negated x.number)) (ne_eqb x.number 0 h))
+  pub called_refused : (x.number ≡ 0 → ⊥) → x.number < 256 → to_z w64 (of_z w64 (pos 0 -ℤ to_z w64 x.number)) ≡ as_answer x
+  unfolding as_answer
+  called_refused h f = refusal_same x.number f ∙ sym (ap (λ b. cond b (pos x.length) (negated x.number)) (ne_eqb x.number 0 h))
 
-  pub called-wrote : x.number ≡ 0 → x.length < 2 ^ 63 → to_z w64 x.length ≡ as-answer x
-  unfolding as-answer
-  called-wrote h f = to_z_pos w64 f ∙ sym (ap (λ n. cond (eqb n 0) (pos x.length) (negated n)) h)
+  pub called_wrote : x.number ≡ 0 → x.length < 2 ^ 63 → to_z w64 x.length ≡ as_answer x
+  unfolding as_answer
+  called_wrote h f = to_z_pos w64 f ∙ sym (ap (λ n. cond (eqb n 0) (pos x.length) (negated n)) h)
 
-pub length-fits : (x : Called) → x.length < 2 ^ 63 → SFits w64 (pos x.length)
-length-fits x f = record { sfits = f }
+pub length_fits : (x : Called) → x.length < 2 ^ 63 → SFits w64 (pos x.length)
+length_fits x f = record { sfits = f }
 
-pub ruleset signs = (refusal-fits, called-refused, called-wrote, length-fits)
+pub ruleset signs = (refusal_fits, called_refused, called_wrote, length_fits)
 
 -- A REFUSED CALL
-pub refuses : (y : Bench.Called) (n : ℕ) (t : List ℕ) → y ≡ call-refused n t → (n ≡ 0 → ⊥) → Called-as y (record { number = n; length = 0 }) t
-unfolding as-answer call-refused
+pub refuses : (y : Bench.Called) (n : ℕ) (t : List ℕ) → y ≡ call_refused n t → (n ≡ 0 → ⊥) → CalledAs y (record { number = n; length = 0 }) t
+unfolding as_answer call_refused
 refuses y n t e h =
     record {
-      answer-same = ap (λ b. cond b (pos 0) (negated n)) (ne_eqb n 0 h) ∙ sym (ap (λ (x : Bench.Called). x.answer) e);
-      buffer-same = sym (ap (λ (x : Bench.Called). x.buffer) e);
+      answer_same = ap (λ b. cond b (pos 0) (negated n)) (ne_eqb n 0 h) ∙ sym (ap (λ (x : Bench.Called). x.answer) e);
+      buffer_same = sym (ap (λ (x : Bench.Called). x.buffer) e);
       fits = omega arith;
     }
 
-pub wrote : (y : Bench.Called) (n : ℕ) (new t u : List ℕ) → y ≡ call-wrote new t → n ≡ length new → n < 2 ^ 63 → u ≡ new ++ drop (length new) t → Called-as y (record { number = 0; length = n }) u
-unfolding as-answer call-wrote
+pub wrote : (y : Bench.Called) (n : ℕ) (new t u : List ℕ) → y ≡ call_wrote new t → n ≡ length new → n < 2 ^ 63 → u ≡ new ++ drop (length new) t → CalledAs y (record { number = 0; length = n }) u
+unfolding as_answer call_wrote
 wrote y n new t u e s f h =
     record {
-      answer-same = ap pos s ∙ sym (ap (λ (x : Bench.Called). x.answer) e);
-      buffer-same = h ∙ sym (ap (λ (x : Bench.Called). x.buffer) e);
+      answer_same = ap pos s ∙ sym (ap (λ (x : Bench.Called). x.answer) e);
+      buffer_same = h ∙ sym (ap (λ (x : Bench.Called). x.buffer) e);
       fits = f;
     }
 
 -- WHAT A HOST GETS of a call
-module _ (y : Bench.Called) (x : Called) (u : List ℕ) (w : Called-as y x u) where
-  pub answer-fits : x.length < 2 ^ 63
-  answer-fits = w.fits
+module _ (y : Bench.Called) (x : Called) (u : List ℕ) (w : CalledAs y x u) where
+  pub answer_fits : x.length < 2 ^ 63
+  answer_fits = w.fits
 
-  pub answered : (r : ℤ) → r ≡ as-answer x → r ≡ y.answer
-  answered r e = e ∙ w.answer-same
+  pub answered : (r : ℤ) → r ≡ as_answer x → r ≡ y.answer
+  answered r e = e ∙ w.answer_same
 
-  pub buffer-left : u ≡ y.buffer
-  buffer-left = w.buffer-same
+  pub buffer_left : u ≡ y.buffer
+  buffer_left = w.buffer_same
 
-pub ruleset calls = (answer-fits, answered, buffer-left)
+pub ruleset calls = (answer_fits, answered, buffer_left)

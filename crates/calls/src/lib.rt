@@ -1,6 +1,6 @@
 // What a call on bytes answers: one signed number.
 ghost use Rattle.std.specs.Prelude.{◌≡◌, ◌<◌, ◌^◌};
-ghost use Rattle.calls.specs.Call.{as-answer};
+ghost use Rattle.calls.specs.Call.{as_answer};
 
 // The number of the question that refused, or 0 and how many bytes were written.
 #[derive(Drop)]
@@ -11,7 +11,7 @@ pub struct Called {
 
 pub fn signed(x: Called) -> i64
     requires { x.length < 2 ^ 63 }
-    ensures { result ≡ as-answer x }
+    ensures { result ≡ as_answer x }
 {
     if x.number != 0 {
         return -(x.number as i64);

@@ -6,77 +6,77 @@ use Prim.Native.Nat.{ℕ, zero, suc, ◌+◌, ◌≤◌, max}
 use native.Mathlib.Omega.{arith}
 use lib.ListN.{length}
 use Rattle.model.specs.Words as Words
-use Rattle.model.specs.Registers.{Machine, with-ring-at-least}
-use Rattle.model.specs.Questions.{pointer-in-range, start-questions}
-use Rattle.model.specs.Run.{unless-refused}
+use Rattle.model.specs.Registers.{Machine, with_ring_at_least}
+use Rattle.model.specs.Questions.{pointer_in_range, start_questions}
+use Rattle.model.specs.Run.{unless_refused}
 use Rattle.model.specs.Check as Check
-use Rattle.model.proofs.QuestionLaws.{ask-yes}
-use Rattle.words.specs.View.{as_pointer, Pointer-within}
+use Rattle.model.proofs.QuestionLaws.{ask_yes}
+use Rattle.words.specs.View.{as_pointer, PointerWithin}
 use Rattle.words.specs.declared.descriptor.Descriptor.{Descriptor}
 use Rattle.words.specs.declared.pointer.Pointer.{Pointer}
-use Rattle.state.specs.View.{as-machine}
+use Rattle.state.specs.View.{as_machine}
 use Rattle.state.specs.declared.Core.{Core}
-use Rattle.state.proofs.PassingLaws.{pointer-passing, ipr-passing, ready-passing}
-use Rattle.host.specs.Record.{machine-of, delivery-of, Converted}
+use Rattle.state.proofs.PassingLaws.{pointer_passing, ipr_passing, ready_passing}
+use Rattle.host.specs.Record.{machine_of, delivery_of, Converted}
 use Rattle.host.specs.declared.record.Registers.{Registers}
-use Rattle.control.specs.Call.{checked-by}
+use Rattle.control.specs.Call.{CheckedBy}
 use Rattle.control.specs.declared.Checked.{Checked}
 use Rattle.control.specs.declared.Checked.TheVariants.{Bad, Ring}
-use Rattle.control.proofs.MoveLaws.{check-faults, check-passes}
+use Rattle.control.proofs.MoveLaws.{check_faults, check_passes}
 
 -- the pointer's ring raised
 module _ (p : Pointer) (n k : ℕ) (e : k ≡ max n p.ring) where
-  pub raised-same : ◌≡◌ {A = Words.Pointer} (record { ring = k; segment = p.segment.0; word = p.word.0 }) (with-ring-at-least n (as_pointer p))
-  unfolding with-ring-at-least
-  raised-same = ap (λ l. record { ring = l; segment = p.segment.0; word = p.word.0 }) e
+  pub raised_same : ◌≡◌ {A = Words.Pointer} (record { ring = k; segment = p.segment.0; word = p.word.0 }) (with_ring_at_least n (as_pointer p))
+  unfolding with_ring_at_least
+  raised_same = ap (λ l. record { ring = l; segment = p.segment.0; word = p.word.0 }) e
 
-  pub raised-within : Pointer-within p → n ≤ 7 → k ≤ 7
-  raised-within w h = let low = w.ring-within in omega arith
+  pub raised_within : PointerWithin p → n ≤ 7 → k ≤ 7
+  raised_within w h = let low = w.ring_within in omega arith
 
 module _ (r : Registers) (c : Core) (w : Converted r c) (memory : List ℕ) (p : Pointer) (n : ℕ)
-    (e : n ≡ Check.check-questions (delivery-of r) (as-machine c r.prs memory) (as_pointer p)) where
+    (e : n ≡ Check.check_questions (delivery_of r) (as_machine c r.prs memory) (as_pointer p)) where
   abbrev m : Machine
-  m = as-machine c r.prs memory
+  m = as_machine c r.prs memory
 
   -- the record's machine is the core's
-  of-record : Check.check (delivery-of r) m (as_pointer p) ≡ Check.check (delivery-of r) (machine-of r memory) (as_pointer p)
-  of-record = ap (λ g. Check.check (delivery-of r) (record { registers = g; memory = memory }) (as_pointer p)) w.same
+  of_record : Check.check (delivery_of r) m (as_pointer p) ≡ Check.check (delivery_of r) (machine_of r memory) (as_pointer p)
+  of_record = ap (λ g. Check.check (delivery_of r) (record { registers = g; memory = memory }) (as_pointer p)) w.same
 
-  pub says-refused : (n ≡ 0 → ⊥) → Check.refused n ≡ Check.check (delivery-of r) (machine-of r memory) (as_pointer p)
-  unfolding Check.check unless-refused
-  says-refused h = by_number n e h ∙ of-record
+  pub says_refused : (n ≡ 0 → ⊥) → Check.refused n ≡ Check.check (delivery_of r) (machine_of r memory) (as_pointer p)
+  unfolding Check.check unless_refused
+  says_refused h = by_number n e h ∙ of_record
     where
-      by_number : (k : ℕ) → k ≡ Check.check-questions (delivery-of r) m (as_pointer p) → (k ≡ 0 → ⊥) → Check.refused k ≡ Check.check (delivery-of r) m (as_pointer p)
+      by_number : (k : ℕ) → k ≡ Check.check_questions (delivery_of r) m (as_pointer p) → (k ≡ 0 → ⊥) → Check.refused k ≡ Check.check (delivery_of r) m (as_pointer p)
       by_number zero e h = absurd (h refl)
-      by_number (suc k) e h = ap (λ a. unless-refused a Check.refused (Check.checked m (with-ring-at-least c.ipr.ring (as_pointer p)))) e
+      by_number (suc k) e h = ap (λ a. unless_refused a Check.refused (Check.checked m (with_ring_at_least c.ipr.ring (as_pointer p)))) e
 
   module _ (z : n ≡ 0) where
-    asked : (pointer-in-range (as_pointer p) ≡ true) × (start-questions (delivery-of r) m ≡ 0)
-    unfolding Check.check-questions
-    asked = ask-yes _ _ _ (ask-yes _ _ _ (sym e ∙ z)).1
+    asked : (pointer_in_range (as_pointer p) ≡ true) × (start_questions (delivery_of r) m ≡ 0)
+    unfolding Check.check_questions
+    asked = ask_yes _ _ _ (ask_yes _ _ _ (sym e ∙ z)).1
 
-    pub pointer-fits : Pointer-within p
-    pointer-fits = pointer-passing p asked.0
+    pub pointer_fits : PointerWithin p
+    pointer_fits = pointer_passing p asked.0
 
-    pub ring-fits : c.ipr.ring ≤ 7
-    ring-fits = (ipr-passing _ c r.prs memory asked.1).ring-within
+    pub ring_fits : c.ipr.ring ≤ 7
+    ring_fits = (ipr_passing _ c r.prs memory asked.1).ring_within
 
-    pub dbr-fits : c.dbr.address + c.dbr.length ≤ length memory
-    dbr-fits = (ready-passing _ c r.prs memory asked.1).dbr-fits
+    pub dbr_fits : c.dbr.address + c.dbr.length ≤ length memory
+    dbr_fits = (ready_passing _ c r.prs memory asked.1).dbr_fits
 
-    goes_on : Check.check (delivery-of r) m (as_pointer p) ≡ Check.checked m (with-ring-at-least c.ipr.ring (as_pointer p))
-    unfolding Check.check unless-refused
-    goes_on = ap (λ a. unless-refused a Check.refused (Check.checked m (with-ring-at-least c.ipr.ring (as_pointer p)))) (sym e ∙ z)
+    goes_on : Check.check (delivery_of r) m (as_pointer p) ≡ Check.checked m (with_ring_at_least c.ipr.ring (as_pointer p))
+    unfolding Check.check unless_refused
+    goes_on = ap (λ a. unless_refused a Check.refused (Check.checked m (with_ring_at_least c.ipr.ring (as_pointer p)))) (sym e ∙ z)
 
-    module _ (x : Checked) (t : Words.Pointer) (g : t ≡ with-ring-at-least c.ipr.ring (as_pointer p)) (s : checked-by m.registers.dbr memory m.registers.ipr t x) where
-      raised-on : Check.checked m t ≡ Check.check (delivery-of r) (machine-of r memory) (as_pointer p)
-      raised-on = ap (Check.checked m) g ∙ sym goes_on ∙ of-record
+    module _ (x : Checked) (t : Words.Pointer) (g : t ≡ with_ring_at_least c.ipr.ring (as_pointer p)) (s : CheckedBy m.registers.dbr memory m.registers.ipr t x) where
+      raised_on : Check.checked m t ≡ Check.check (delivery_of r) (machine_of r memory) (as_pointer p)
+      raised_on = ap (Check.checked m) g ∙ sym goes_on ∙ of_record
 
-      pub says-fault : (k : ℕ) → x ≡ Bad k → Check.fault k t ≡ Check.check (delivery-of r) (machine-of r memory) (as_pointer p)
-      says-fault k f = sym (check-faults m t k (rw f at s)) ∙ raised-on
+      pub says_fault : (k : ℕ) → x ≡ Bad k → Check.fault k t ≡ Check.check (delivery_of r) (machine_of r memory) (as_pointer p)
+      says_fault k f = sym (check_faults m t k (rw f at s)) ∙ raised_on
 
-      pub says-passes : (d : Descriptor) (k : ℕ) → x ≡ Ring d k → Check.passes k ≡ Check.check (delivery-of r) (machine-of r memory) (as_pointer p)
-      says-passes d k f = sym (check-passes m t d k (rw f at s)) ∙ raised-on
+      pub says_passes : (d : Descriptor) (k : ℕ) → x ≡ Ring d k → Check.passes k ≡ Check.check (delivery_of r) (machine_of r memory) (as_pointer p)
+      says_passes d k f = sym (check_passes m t d k (rw f at s)) ∙ raised_on
 
-      pub ring-passed : (d : Descriptor) (k : ℕ) → x ≡ Ring d k → k ≤ 7
-      ring-passed d k f = (rw f at s).2
+      pub ring_passed : (d : Descriptor) (k : ℕ) → x ≡ Ring d k → k ≤ 7
+      ring_passed d k f = (rw f at s).2

@@ -6,15 +6,15 @@ use native.Mathlib.Omega.{arith}
 use lib.ListN.{length}
 use Rattle.model.specs.Words.{Pointer}
 use Rattle.model.specs.Check as Check
-use Rattle.model.specs.Listing.{ascii, line, check-line}
+use Rattle.model.specs.Listing.{ascii, line, check_line}
 use Rattle.text.specs.Text.{placed}
-use Rattle.text.proofs.TextLaws.{length-placed, next-after, put-after}
+use Rattle.text.proofs.TextLaws.{length_placed, next_after, put_after}
 use Rattle.parts.proofs.PartLaws.{ended}
-use Rattle.checks.specs.View.{as-check}
+use Rattle.checks.specs.View.{as_check}
 use Rattle.checks.specs.declared.Verdict.{Verdict}
 
 -- a fault's line: its number, and the pointer's numbers
-module _ (f r s w a b c d e : ℕ) (named t₀ t₁ t₂ t₃ t₄ : List ℕ) (is-fault : named ≡ (ascii "fault" ++ ascii " ") ++ ended f 32)
+module _ (f r s w a b c d e : ℕ) (named t₀ t₁ t₂ t₃ t₄ : List ℕ) (is_fault : named ≡ (ascii "fault" ++ ascii " ") ++ ended f 32)
     (p₁ : t₁ ≡ placed a named t₀) (q₁ : b ≡ a + length named) (l₁ : b ≤ a + 19)
     (p₂ : t₂ ≡ placed b (ended r 32) t₁) (q₂ : c ≡ b + length (ended r 32)) (l₂ : c ≤ b + 2)
     (p₃ : t₃ ≡ placed c (ended s 32) t₂) (q₃ : d ≡ c + length (ended s 32)) (l₃ : d ≤ c + 6)
@@ -22,39 +22,39 @@ module _ (f r s w a b c d e : ℕ) (named t₀ t₁ t₂ t₃ t₄ : List ℕ) (
   abbrev p : Pointer
   p = record { ring = r; segment = s; word = w }
 
-  parts : named ++ (ended r 32 ++ (ended s 32 ++ ended w 10)) ≡ check-line (Check.fault f p)
-  unfolding check-line line ascii
-  parts = ap (λ bs. bs ++ (ended r 32 ++ (ended s 32 ++ ended w 10))) is-fault
+  parts : named ++ (ended r 32 ++ (ended s 32 ++ ended w 10)) ≡ check_line (Check.fault f p)
+  unfolding check_line line ascii
+  parts = ap (λ bs. bs ++ (ended r 32 ++ (ended s 32 ++ ended w 10))) is_fault
 
-  from-segment : e ≡ c + length (ended s 32 ++ ended w 10)
-  from-segment = next-after c d e (ended s 32) (ended w 10) q₃ q₄
+  from_segment : e ≡ c + length (ended s 32 ++ ended w 10)
+  from_segment = next_after c d e (ended s 32) (ended w 10) q₃ q₄
 
-  from-ring : e ≡ b + length (ended r 32 ++ (ended s 32 ++ ended w 10))
-  from-ring = next-after b c e (ended r 32) (ended s 32 ++ ended w 10) q₂ from-segment
+  from_ring : e ≡ b + length (ended r 32 ++ (ended s 32 ++ ended w 10))
+  from_ring = next_after b c e (ended r 32) (ended s 32 ++ ended w 10) q₂ from_segment
 
-  pub next-after-fault : e ≡ a + length (check-line (Check.fault f p))
-  next-after-fault = next-after a b e named (ended r 32 ++ (ended s 32 ++ ended w 10)) q₁ from-ring ∙ ap (λ bs. a + length bs) parts
+  pub next_after_fault : e ≡ a + length (check_line (Check.fault f p))
+  next_after_fault = next_after a b e named (ended r 32 ++ (ended s 32 ++ ended w 10)) q₁ from_ring ∙ ap (λ bs. a + length bs) parts
 
-  pub fault-put : a + 40 ≤ length t₀ → t₄ ≡ placed a (check-line (Check.fault f p)) t₀
-  fault-put h =
-      let z₁ : length t₁ ≡ length t₀ = ap length p₁ ∙ length-placed a named t₀ (omega arith) in
-      let z₂ : length t₂ ≡ length t₁ = ap length p₂ ∙ length-placed b (ended r 32) t₁ (omega arith) in
-      put-after a b e named (ended r 32 ++ (ended s 32 ++ ended w 10)) t₀ t₁ t₄ p₁ q₁
-      (put-after b c e (ended r 32) (ended s 32 ++ ended w 10) t₁ t₂ t₄ p₂ q₂
-      (put-after c d e (ended s 32) (ended w 10) t₂ t₃ t₄ p₃ q₃ p₄ q₄ (omega arith))
-      from-segment (omega arith))
-      from-ring (omega arith)
+  pub fault_put : a + 40 ≤ length t₀ → t₄ ≡ placed a (check_line (Check.fault f p)) t₀
+  fault_put h =
+      let z₁ : length t₁ ≡ length t₀ = ap length p₁ ∙ length_placed a named t₀ (omega arith) in
+      let z₂ : length t₂ ≡ length t₁ = ap length p₂ ∙ length_placed b (ended r 32) t₁ (omega arith) in
+      put_after a b e named (ended r 32 ++ (ended s 32 ++ ended w 10)) t₀ t₁ t₄ p₁ q₁
+      (put_after b c e (ended r 32) (ended s 32 ++ ended w 10) t₁ t₂ t₄ p₂ q₂
+      (put_after c d e (ended s 32) (ended w 10) t₂ t₃ t₄ p₃ q₃ p₄ q₄ (omega arith))
+      from_segment (omega arith))
+      from_ring (omega arith)
       ∙ ap (λ bs. placed a bs t₀) parts
 
 -- the verdict's case
-module _ (v k : Verdict) (a b : ℕ) (bs t u : List ℕ) (case : v ≡ k) (same : bs ≡ check-line (as-check k)) where
-  verdict-line : bs ≡ check-line (as-check v)
-  verdict-line = same ∙ ap (λ x. check-line (as-check x)) (sym case)
+module _ (v k : Verdict) (a b : ℕ) (bs t u : List ℕ) (case : v ≡ k) (same : bs ≡ check_line (as_check k)) where
+  verdict_line : bs ≡ check_line (as_check v)
+  verdict_line = same ∙ ap (λ x. check_line (as_check x)) (sym case)
 
-  pub next-after-line : b ≡ a + length bs → b ≡ a + length (check-line (as-check v))
-  next-after-line e = e ∙ ap (λ xs. a + length xs) verdict-line
+  pub next_after_line : b ≡ a + length bs → b ≡ a + length (check_line (as_check v))
+  next_after_line e = e ∙ ap (λ xs. a + length xs) verdict_line
 
-  pub line-put : u ≡ placed a bs t → u ≡ placed a (check-line (as-check v)) t
-  line-put e = e ∙ ap (λ xs. placed a xs t) verdict-line
+  pub line_put : u ≡ placed a bs t → u ≡ placed a (check_line (as_check v)) t
+  line_put e = e ∙ ap (λ xs. placed a xs t) verdict_line
 
-pub ruleset line-laws = (next-after-line, line-put)
+pub ruleset line_laws = (next_after_line, line_put)

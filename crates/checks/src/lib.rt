@@ -1,11 +1,11 @@
 // May I call there? CALL's check of any pointer, over a register record and a memory that are only read.
 ghost use Rattle.std.specs.Prelude.{◌≡◌, ◌≤◌};
-ghost use Rattle.model.specs.Registers.{zero-pointer, with-ring-at-least};
-ghost use Rattle.model.specs.Answers.{check-numbers};
+ghost use Rattle.model.specs.Registers.{zero_pointer, with_ring_at_least};
+ghost use Rattle.model.specs.Answers.{check_numbers};
 ghost use Rattle.model.specs.Check.{check};
-ghost use Rattle.words.specs.View.{as_pointer, Pointer-within};
-ghost use Rattle.host.specs.Record.{pointer-of, machine-of, delivery-of};
-ghost use Rattle.checks.specs.View.{as-check, Verdict-within, as-numbers};
+ghost use Rattle.words.specs.View.{as_pointer, PointerWithin};
+ghost use Rattle.host.specs.Record.{pointer_of, machine_of, delivery_of};
+ghost use Rattle.checks.specs.View.{as_check, VerdictWithin, as_numbers};
 
 use control::Checked;
 use host::record::Registers;
@@ -25,8 +25,8 @@ pub enum Verdict {
 
 // The pointer's ring, raised to at least IPR's.
 fn raised(p: Pointer, ring: u64) -> Pointer
-    requires { Pointer-within p × (ring ≤ 7) }
-    ensures { (as_pointer result ≡ with-ring-at-least ring (as_pointer p)) × Pointer-within result }
+    requires { PointerWithin p × (ring ≤ 7) }
+    ensures { (as_pointer result ≡ with_ring_at_least ring (as_pointer p)) × PointerWithin result }
 {
     let mut q = p;
     q.ring = state::larger(ring, p.ring);
@@ -35,7 +35,7 @@ fn raised(p: Pointer, ring: u64) -> Pointer
 
 // 1 to 4, the pointer under 2 as well; then 11 to 15 and 26 to 30 of the pointer, its ring raised.
 pub fn ask(registers: Registers, memory: &[u64], ring: u8, segment: u16, word: u16) -> Verdict
-    ensures { (as-check result ≡ check (delivery-of registers) (machine-of registers memory.now) (record { ring = ring; segment = segment; word = word })) × Verdict-within result }
+    ensures { (as_check result ≡ check (delivery_of registers) (machine_of registers memory.now) (record { ring = ring; segment = segment; word = word })) × VerdictWithin result }
 {
     let core = host::record::core_of(registers);
     let prs = registers.prs;
@@ -66,7 +66,7 @@ pub struct Check {
 }
 
 fn nowhere() -> host::record::Pointer
-    ensures { pointer-of result ≡ zero-pointer }
+    ensures { pointer_of result ≡ zero_pointer }
 {
     host::record::Pointer {
         ring: 0,
@@ -76,8 +76,8 @@ fn nowhere() -> host::record::Pointer
 }
 
 fn numbers_of(verdict: Verdict) -> Check
-    requires { Verdict-within verdict }
-    ensures { as-numbers result ≡ check-numbers (as-check verdict) }
+    requires { VerdictWithin verdict }
+    ensures { as_numbers result ≡ check_numbers (as_check verdict) }
 {
     match verdict {
         Verdict::Refused(n) => Check {
@@ -103,7 +103,7 @@ fn numbers_of(verdict: Verdict) -> Check
 
 // The same as numbers.
 pub fn may_call(registers: Registers, memory: &[u64], ring: u8, segment: u16, word: u16) -> Check
-    ensures { as-numbers result ≡ check-numbers (check (delivery-of registers) (machine-of registers memory.now) (record { ring = ring; segment = segment; word = word })) }
+    ensures { as_numbers result ≡ check_numbers (check (delivery_of registers) (machine_of registers memory.now) (record { ring = ring; segment = segment; word = word })) }
 {
     numbers_of(ask(registers, memory, ring, segment, word))
 }

@@ -1,10 +1,10 @@
 // A verdict as a line.
 ghost use Rattle.std.specs.Prelude.{◌+◌, ◌≤◌, length};
 ghost use Rattle.model.specs.Check.{fault};
-ghost use Rattle.model.specs.Listing.{check-line};
-ghost use Rattle.words.specs.View.{as_pointer, Pointer-within};
+ghost use Rattle.model.specs.Listing.{check_line};
+ghost use Rattle.words.specs.View.{as_pointer, PointerWithin};
 ghost use Rattle.text.specs.Text.{Put};
-ghost use Rattle.checks.specs.View.{as-check, Verdict-within};
+ghost use Rattle.checks.specs.View.{as_check, VerdictWithin};
 
 use crate::Verdict;
 use parts::{put_digit, put_named, put_short};
@@ -12,8 +12,8 @@ use words::pointer::Pointer;
 
 // A fault's number and the pointer that faulted.
 fn put_fault(text: &mut [u8], at: usize, n: u8, t: Pointer) -> usize
-    requires { (at + 40 ≤ length text.old) × Pointer-within t }
-    ensures { Put 40 at (check-line (fault n (as_pointer t))) text.old text.new result }
+    requires { (at + 40 ≤ length text.old) × PointerWithin t }
+    ensures { Put 40 at (check_line (fault n (as_pointer t))) text.old text.new result }
 {
     let at_ring = put_named(text, at, b"fault ", n as u32, 32);
     let at_segment = put_digit(text, at_ring, t.ring, 32);
@@ -22,8 +22,8 @@ fn put_fault(text: &mut [u8], at: usize, n: u8, t: Pointer) -> usize
 }
 
 pub fn put_check(text: &mut [u8], at: usize, verdict: Verdict) -> usize
-    requires { (at + 40 ≤ length text.old) × Verdict-within verdict }
-    ensures { Put 40 at (check-line (as-check verdict)) text.old text.new result }
+    requires { (at + 40 ≤ length text.old) × VerdictWithin verdict }
+    ensures { Put 40 at (check_line (as_check verdict)) text.old text.new result }
 {
     match verdict {
         Verdict::Refused(n) => put_named(text, at, b"refused ", n as u32, 10),

@@ -1,13 +1,13 @@
 // A chunk of a listing: some steps of a run and their lines, with the last line where the run ends with them.
 ghost use Rattle.std.specs.Prelude.{◌≡◌, ◌+◌, ◌*◌, ◌/◌, ◌^◌, ◌≤◌, ◌<◌, length, take};
-ghost use Rattle.model.specs.Questions.{start-questions};
+ghost use Rattle.model.specs.Questions.{start_questions};
 ghost use Rattle.model.specs.Listing.{step_line, step_lines};
-ghost use Rattle.state.specs.View.{as-machine, as-delivery};
-ghost use Rattle.state.specs.Reply.{Reply-within, completed};
-ghost use Rattle.run.specs.Run.{step_in, noted-steps};
+ghost use Rattle.state.specs.View.{as_machine, as_delivery};
+ghost use Rattle.state.specs.Reply.{ReplyWithin, completed};
+ghost use Rattle.run.specs.Run.{step_in, noted_steps};
 ghost use Rattle.text.specs.Text.{Put};
 ghost use Rattle.lines.specs.Kept.{Kept};
-ghost use Rattle.chunks.specs.Chunk.{Few, ends-run, ending, Chunk-written, Chunk-listed};
+ghost use Rattle.chunks.specs.Chunk.{Few, ends_run, ending, ChunkWritten, ChunkListed};
 
 use lines::Number;
 use state::reply::Reply;
@@ -61,8 +61,8 @@ fn put_step(text: &mut [u8], at: usize, tens: &[u8; 10], number: Number, word: u
 
 // The lines of so many steps, from their trace.
 fn put_steps(text: &mut [u8], at: usize, count: u32, trace: &[u64], steps: u32) -> usize
-    requires { (at + 64 * steps ≤ length text.old) × (steps ≤ length trace.now) × (count + steps < 2 ^ 32) × Few (noted-steps (take steps trace.now)) }
-    ensures { Put (64 * steps) at (step_lines count (noted-steps (take steps trace.now))) text.old text.new result }
+    requires { (at + 64 * steps ≤ length text.old) × (steps ≤ length trace.now) × (count + steps < 2 ^ 32) × Few (noted_steps (take steps trace.now)) }
+    ensures { Put (64 * steps) at (step_lines count (noted_steps (take steps trace.now))) text.old text.new result }
 {
     let mut tens: [u8; 10] = [48; 10];
     let mut number = lines::number_of(&mut tens, count);
@@ -87,8 +87,8 @@ fn put_chunk(
     text: &mut [u8],
     at: usize,
 ) -> Chunk
-    requires { (start-questions (as-delivery delivery) (as-machine core prs.old memory.old) ≡ 0) × (at + 64 * steps ≤ length text.old) × (steps ≤ 256) × (count + steps < 2 ^ 32) }
-    ensures { Chunk-written (as-delivery delivery) (as-machine core prs.old memory.old) count steps at text.old result (as-machine result.core prs.new memory.new) text.new }
+    requires { (start_questions (as_delivery delivery) (as_machine core prs.old memory.old) ≡ 0) × (at + 64 * steps ≤ length text.old) × (steps ≤ 256) × (count + steps < 2 ^ 32) }
+    ensures { ChunkWritten (as_delivery delivery) (as_machine core prs.old memory.old) count steps at text.old result (as_machine result.core prs.new memory.new) text.new }
 {
     let mut trace: [u64; 256] = [0; 256];
     let y = machine::run(
@@ -118,8 +118,8 @@ fn put_chunk(
 
 // The last line, where a chunk's reply ends the run, with the total of the whole run.
 pub fn put_ending(text: &mut [u8], at: usize, count: u32, total: u64, reply: Reply) -> Ending
-    requires { (at + 64 ≤ length text.old) × Reply-within reply × (count + completed reply < 2 ^ 32) }
-    ensures { (result.is_last ≡ ends-run reply) × Put 64 at (ending count total reply) text.old text.new result.length }
+    requires { (at + 64 ≤ length text.old) × ReplyWithin reply × (count + completed reply < 2 ^ 32) }
+    ensures { (result.is_last ≡ ends_run reply) × Put 64 at (ending count total reply) text.old text.new result.length }
 {
     match reply {
         Reply::Refused(n) => Ending {
@@ -153,8 +153,8 @@ pub fn list_chunk(
     text: &mut [u8],
     at: usize,
 ) -> Line
-    requires { (start-questions (as-delivery delivery) (as-machine core prs.old memory.old) ≡ 0) × (at + 64 * steps + 64 ≤ length text.old) × (steps ≤ 256) × (count + steps < 2 ^ 32) × (total ≤ 64 * count) }
-    ensures { Chunk-listed (as-delivery delivery) (as-machine core prs.old memory.old) count total steps at text.old result (as-machine result.core prs.new memory.new) text.new }
+    requires { (start_questions (as_delivery delivery) (as_machine core prs.old memory.old) ≡ 0) × (at + 64 * steps + 64 ≤ length text.old) × (steps ≤ 256) × (count + steps < 2 ^ 32) × (total ≤ 64 * count) }
+    ensures { ChunkListed (as_delivery delivery) (as_machine core prs.old memory.old) count total steps at text.old result (as_machine result.core prs.new memory.new) text.new }
 {
     let x = put_chunk(delivery, core, prs, memory, count, steps, text, at);
     let reply = x.reply;

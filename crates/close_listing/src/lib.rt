@@ -2,14 +2,14 @@
 // room for. It is the plain processor's listing.
 ghost use Rattle.std.specs.Prelude.{◌≡◌, [], ◌∷◌, ◌+◌, ◌*◌, ◌^◌, ◌≤◌, ◌<◌, length};
 ghost use Rattle.model.specs.Listing.{step_lines};
-ghost use Rattle.words.specs.View.{as_pointer, Pointer-within};
-ghost use Rattle.state.specs.View.{as-machine, as-delivery};
+ghost use Rattle.words.specs.View.{as_pointer, PointerWithin};
+ghost use Rattle.state.specs.View.{as_machine, as_delivery};
 ghost use Rattle.text.specs.Text.{Put};
-ghost use Rattle.chunks.specs.Chunk.{Chunk-written, Chunk-listed};
-ghost use Rattle.listing.specs.Lines.{Lines-written};
-ghost use Rattle.close_listing.specs.Stepped.{Close-by, Stepped, steps-of-one};
+ghost use Rattle.chunks.specs.Chunk.{ChunkWritten, ChunkListed};
+ghost use Rattle.listing.specs.Lines.{LinesWritten};
+ghost use Rattle.close_listing.specs.Stepped.{CloseBy, Stepped, steps_of_one};
 ghost use Rattle.driver.specs.Drive.{Stands, Drives};
-ghost use Rattle.state.specs.View.{as-pointers};
+ghost use Rattle.state.specs.View.{as_pointers};
 
 use chunks::{Chunk, Line};
 use lookup::Record;
@@ -62,8 +62,8 @@ fn take_step(
     memory: &mut [u64],
     records: [Record; 16],
 ) -> Step
-    requires { Close-by (as-delivery delivery) (as-machine core prs.old memory.old) records }
-    ensures { Stepped (as-delivery delivery) (as-machine core prs.old memory.old) result.reply result.total (as-machine result.core prs.new memory.new) result.records }
+    requires { CloseBy (as_delivery delivery) (as_machine core prs.old memory.old) records }
+    ensures { Stepped (as_delivery delivery) (as_machine core prs.old memory.old) result.reply result.total (as_machine result.core prs.new memory.new) result.records }
 {
     let from = pending::begin(delivery, core, 0, 0, 1);
     let held = drive_held(records, prs, memory, delivery, 1, from);
@@ -90,8 +90,8 @@ fn put_step(
     ipr: Pointer,
     pointers: u64,
 ) -> usize
-    requires { (at + 64 ≤ length text.old) × (count + 1 < 2 ^ 32) × Pointer-within ipr × (pointers ≤ 64) }
-    ensures { Put 64 at (step_lines count (steps-of-one reply (as_pointer ipr) pointers)) text.old text.new result }
+    requires { (at + 64 ≤ length text.old) × (count + 1 < 2 ^ 32) × PointerWithin ipr × (pointers ≤ 64) }
+    ensures { Put 64 at (step_lines count (steps_of_one reply (as_pointer ipr) pointers)) text.old text.new result }
 {
     if chunks::steps_of(reply) == 0 {
         return at;
@@ -112,8 +112,8 @@ fn put_chunk(
     text: &mut [u8],
     at: usize,
 ) -> StepChunk
-    requires { Close-by (as-delivery delivery) (as-machine core prs.old memory.old) records × (at + 64 ≤ length text.old) × (count + 1 < 2 ^ 32) }
-    ensures { Chunk-written (as-delivery delivery) (as-machine core prs.old memory.old) count 1 at text.old result.chunk (as-machine result.chunk.core prs.new memory.new) text.new × Close-by (as-delivery delivery) (as-machine result.chunk.core prs.new memory.new) result.records }
+    requires { CloseBy (as_delivery delivery) (as_machine core prs.old memory.old) records × (at + 64 ≤ length text.old) × (count + 1 < 2 ^ 32) }
+    ensures { ChunkWritten (as_delivery delivery) (as_machine core prs.old memory.old) count 1 at text.old result.chunk (as_machine result.chunk.core prs.new memory.new) text.new × CloseBy (as_delivery delivery) (as_machine result.chunk.core prs.new memory.new) result.records }
 {
     let x = take_step(delivery, core, prs, memory, records);
     let reply = x.reply;
@@ -142,8 +142,8 @@ fn list_step(
     count: u32,
     text: &mut [u8],
 ) -> Stand
-    requires { Close-by (as-delivery delivery) (as-machine from.line.core prs.old memory.old) from.records × (from.line.length + 128 ≤ length text.old) × (count + 1 < 2 ^ 32) × (from.line.total ≤ 64 * count) }
-    ensures { Chunk-listed (as-delivery delivery) (as-machine from.line.core prs.old memory.old) count from.line.total 1 from.line.length text.old result.line (as-machine result.line.core prs.new memory.new) text.new × Close-by (as-delivery delivery) (as-machine result.line.core prs.new memory.new) result.records }
+    requires { CloseBy (as_delivery delivery) (as_machine from.line.core prs.old memory.old) from.records × (from.line.length + 128 ≤ length text.old) × (count + 1 < 2 ^ 32) × (from.line.total ≤ 64 * count) }
+    ensures { ChunkListed (as_delivery delivery) (as_machine from.line.core prs.old memory.old) count from.line.total 1 from.line.length text.old result.line (as_machine result.line.core prs.new memory.new) text.new × CloseBy (as_delivery delivery) (as_machine result.line.core prs.new memory.new) result.records }
 {
     let line = from.line;
     let records = from.records;
@@ -186,8 +186,8 @@ pub fn list(
     budget: u32,
     text: &mut [u8],
 ) -> Listed
-    requires { Close-by (as-delivery delivery) (as-machine from.line.core prs.old memory.old) from.records × (count ≤ budget) × (from.line.total ≤ 64 * count) }
-    ensures { Lines-written (as-delivery delivery) (as-machine from.line.core prs.old memory.old) count from.line.total budget text.old (record { line = result.stand.line; count = result.count }) (as-machine result.stand.line.core prs.new memory.new) text.new × Close-by (as-delivery delivery) (as-machine result.stand.line.core prs.new memory.new) result.stand.records }
+    requires { CloseBy (as_delivery delivery) (as_machine from.line.core prs.old memory.old) from.records × (count ≤ budget) × (from.line.total ≤ 64 * count) }
+    ensures { LinesWritten (as_delivery delivery) (as_machine from.line.core prs.old memory.old) count from.line.total budget text.old (record { line = result.stand.line; count = result.count }) (as_machine result.stand.line.core prs.new memory.new) text.new × CloseBy (as_delivery delivery) (as_machine result.stand.line.core prs.new memory.new) result.stand.records }
 {
     let line = from.line;
     let core = line.core;
@@ -262,8 +262,8 @@ fn drive_held(
     budget: u32,
     from: pending::Pending,
 ) -> Held
-    requires { Stands delivery budget from records (as-pointers prs.old) memory.old }
-    ensures { Drives delivery budget from records (as-pointers prs.old) memory.old result.end result.records (as-pointers prs.new) memory.new }
+    requires { Stands delivery budget from records (as_pointers prs.old) memory.old }
+    ensures { Drives delivery budget from records (as_pointers prs.old) memory.old result.end result.records (as_pointers prs.new) memory.new }
 {
     Held { end: from, records }
 }

@@ -12,170 +12,170 @@ use mir.Syntax.{w64}
 use mir.Val.{Fits}
 use mir.Facts.{Fits-le}
 use Rattle.model.specs.Registers.{Delivery, Machine}
-use Rattle.model.specs.Image.{Rules, stored, Mark, mark_of, record-size, loaded, stored-image}
-use Rattle.model.specs.Convert.{size-by, front-size, records, kept_of, compacted, is-start, start-end, with-zeros-at}
-use Rattle.model.proofs.BranchLaws.{cond-holds}
-use Rattle.formats.proofs.ImageLaws.{record-has-a-mark}
-use Rattle.formats.proofs.ConvertLaws.{zeros-length, compacted-with-zeros}
+use Rattle.model.specs.Image.{Rules, stored, Mark, mark_of, record_size, loaded, stored_image}
+use Rattle.model.specs.Convert.{size_by, front_size, records, kept_of, compacted, is_start, start_end, with_zeros_at}
+use Rattle.model.proofs.BranchLaws.{cond_holds}
+use Rattle.formats.proofs.ImageLaws.{record_has_a_mark}
+use Rattle.formats.proofs.ConvertLaws.{zeros_length, compacted_with_zeros}
 use Rattle.fields.specs.declared.mark.Mark as Code
 use Rattle.fields.specs.declared.mark.Mark.TheVariants.{Memory, Start, Word, Run, Unknown}
-use Rattle.fields.specs.Mark.{as-mark}
-use Rattle.fields.proofs.MarkLaws.{mark-of-record}
-use Rattle.buffers.specs.Move.{bytes-moved, cleared}
-use Rattle.buffers.proofs.MoveLaws.{part-of-front}
+use Rattle.fields.specs.Mark.{as_mark}
+use Rattle.fields.proofs.MarkLaws.{mark_of_record}
+use Rattle.buffers.specs.Move.{bytes_moved, cleared}
+use Rattle.buffers.proofs.MoveLaws.{part_of_front}
 use Rattle.compaction.specs.declared.front.FrontRecord.{FrontRecord}
-use Rattle.compaction.specs.Front.{Front-of}
+use Rattle.compaction.specs.Front.{FrontOf}
 use Rattle.compaction.specs.Compacted.{Compacted}
-use Rattle.compaction.specs.Renewed.{with-zeros, Zeros-added, Renewed}
-use Rattle.compaction.proofs.LastLaws.{from-is-drop, front-in, front-none, front-one, front_length}
+use Rattle.compaction.specs.Renewed.{with_zeros, ZerosAdded, Renewed}
+use Rattle.compaction.proofs.LastLaws.{from_is_drop, front_in, front_none, front_one, front_length}
 
 -- ST BY ITS MARK
-module _ (k : Code.Mark) (bs : List ℕ) (q : as-mark k ≡ mark_of bs) where
-  told : is-start (mark_of bs) ≡ is-start (as-mark k)
-  told = ap is-start (sym q)
+module _ (k : Code.Mark) (bs : List ℕ) (q : as_mark k ≡ mark_of bs) where
+  told : is_start (mark_of bs) ≡ is_start (as_mark k)
+  told = ap is_start (sym q)
 
-  pub start_is : k ≡ Start → true ≡ is-start (mark_of bs)
-  unfolding is-start
-  start_is e = sym (told ∙ ap (λ x. is-start (as-mark x)) e)
+  pub start_is : k ≡ Start → true ≡ is_start (mark_of bs)
+  unfolding is_start
+  start_is e = sym (told ∙ ap (λ x. is_start (as_mark x)) e)
 
-  pub memory-is-none : k ≡ Memory → false ≡ is-start (mark_of bs)
-  unfolding is-start
-  memory-is-none e = sym (told ∙ ap (λ x. is-start (as-mark x)) e)
+  pub memory_is_none : k ≡ Memory → false ≡ is_start (mark_of bs)
+  unfolding is_start
+  memory_is_none e = sym (told ∙ ap (λ x. is_start (as_mark x)) e)
 
-  pub word-is-none : k ≡ Word → false ≡ is-start (mark_of bs)
-  unfolding is-start
-  word-is-none e = sym (told ∙ ap (λ x. is-start (as-mark x)) e)
+  pub word_is_none : k ≡ Word → false ≡ is_start (mark_of bs)
+  unfolding is_start
+  word_is_none e = sym (told ∙ ap (λ x. is_start (as_mark x)) e)
 
-  pub run-is-none : k ≡ Run → false ≡ is-start (mark_of bs)
-  unfolding is-start
-  run-is-none e = sym (told ∙ ap (λ x. is-start (as-mark x)) e)
+  pub run_is_none : k ≡ Run → false ≡ is_start (mark_of bs)
+  unfolding is_start
+  run_is_none e = sym (told ∙ ap (λ x. is_start (as_mark x)) e)
 
-  pub unknown-is-none : k ≡ Unknown → false ≡ is-start (mark_of bs)
-  unfolding is-start
-  unknown-is-none e = sym (told ∙ ap (λ x. is-start (as-mark x)) e)
+  pub unknown_is_none : k ≡ Unknown → false ≡ is_start (mark_of bs)
+  unfolding is_start
+  unknown_is_none e = sym (told ∙ ap (λ x. is_start (as_mark x)) e)
 
-pub ruleset start-marks = (start_is, memory-is-none, word-is-none, run-is-none, unknown-is-none)
+pub ruleset start_marks = (start_is, memory_is_none, word_is_none, run_is_none, unknown_is_none)
 
 -- A RECORD has its mark
-size-has-a-mark : (v : Rules) (k : Option Mark) (n : ℕ) → (size-by v k n ≡ 0 → ⊥) → 2 ≤ size-by v k n
-unfolding size-by
-size-has-a-mark v none n h = absurd (h refl)
-size-has-a-mark v (some k) n h =
-    cond-holds (λ s. (s ≡ 0 → ⊥) → 2 ≤ s) (leb (record-size v k) n) (λ _ _. record-has-a-mark v k) (λ _ f. absurd (f refl)) h
+size_has_a_mark : (v : Rules) (k : Option Mark) (n : ℕ) → (size_by v k n ≡ 0 → ⊥) → 2 ≤ size_by v k n
+unfolding size_by
+size_has_a_mark v none n h = absurd (h refl)
+size_has_a_mark v (some k) n h =
+    cond_holds (λ s. (s ≡ 0 → ⊥) → 2 ≤ s) (leb (record_size v k) n) (λ _ _. record_has_a_mark v k) (λ _ f. absurd (f refl)) h
 
-module _ (bs : List ℕ) (r : FrontRecord) (f : Front-of bs r) (h : r.size ≡ 0 → ⊥) where
-  front-mark : mark_of (take r.size bs) ≡ mark_of bs
-  unfolding front-size
-  front-mark =
-      mark-of-record r.size bs
-      (let y = size-has-a-mark stored (mark_of bs) (length bs) (λ e. h (f.size_is ∙ e)) in let z = f.size_is in omega arith)
+module _ (bs : List ℕ) (r : FrontRecord) (f : FrontOf bs r) (h : r.size ≡ 0 → ⊥) where
+  front_mark : mark_of (take r.size bs) ≡ mark_of bs
+  unfolding front_size
+  front_mark =
+      mark_of_record r.size bs
+      (let y = size_has_a_mark stored (mark_of bs) (length bs) (λ e. h (f.size_is ∙ e)) in let z = f.size_is in omega arith)
 
-  start-end-front : start-end (records stored bs) ≡ r.size + cond (is-start (mark_of bs)) 0 (start-end (records stored (drop r.size bs)))
-  unfolding start-end
-  start-end-front =
-      ap start-end (front-one bs r f h)
-      ∙ ap₂ (λ n k. n + cond (is-start k) 0 (start-end (records stored (drop r.size bs)))) (front_length bs r f) front-mark
+  start_end_front : start_end (records stored bs) ≡ r.size + cond (is_start (mark_of bs)) 0 (start_end (records stored (drop r.size bs)))
+  unfolding start_end
+  start_end_front =
+      ap start_end (front_one bs r f h)
+      ∙ ap₂ (λ n k. n + cond (is_start k) 0 (start_end (records stored (drop r.size bs)))) (front_length bs r f) front_mark
 
 -- THE WALK: no record before `at` is an ST
-pub record Start-so-far (bs : List ℕ) (at : ℕ) : Type 0 where
+pub record StartSoFar (bs : List ℕ) (at : ℕ) : Type 0 where
   pub in_bytes : at ≤ length bs
-  pub same : at + start-end (records stored (drop at bs)) ≡ start-end (records stored bs)
+  pub same : at + start_end (records stored (drop at bs)) ≡ start_end (records stored bs)
 
-pub no-start-yet : (bs : List ℕ) → Start-so-far bs 0
-no-start-yet bs = record { in_bytes = omega arith; same = omega arith }
+pub no_start_yet : (bs : List ℕ) → StartSoFar bs 0
+no_start_yet bs = record { in_bytes = omega arith; same = omega arith }
 
-module _ {bs : List ℕ} {at : ℕ} (i : Start-so-far bs at) {r : FrontRecord} (g : Front-of (take (length bs - at) (drop at bs)) r) where
-  f : Front-of (drop at bs) r
-  f = rw (from-is-drop at bs) at g
+module _ {bs : List ℕ} {at : ℕ} (i : StartSoFar bs at) {r : FrontRecord} (g : FrontOf (take (length bs - at) (drop at bs)) r) where
+  f : FrontOf (drop at bs) r
+  f = rw (from_is_drop at bs) at g
 
-  pub no_start : r.size ≡ 0 → at ≡ start-end (records stored bs)
-  unfolding start-end
-  no_start e = let none : start-end (records stored (drop at bs)) ≡ 0 = ap start-end (front-none (drop at bs) r f e) in let z = i.same in omega arith
+  pub no_start : r.size ≡ 0 → at ≡ start_end (records stored bs)
+  unfolding start_end
+  no_start e = let none : start_end (records stored (drop at bs)) ≡ 0 = ap start_end (front_none (drop at bs) r f e) in let z = i.same in omega arith
 
-  pub start-in-bytes : at + r.size ≤ length bs
-  start-in-bytes = let y = front-in (drop at bs) r f in let z = length-drop at bs in let h = i.in_bytes in omega arith
+  pub start_in_bytes : at + r.size ≤ length bs
+  start_in_bytes = let y = front_in (drop at bs) r f in let z = length-drop at bs in let h = i.in_bytes in omega arith
 
   pub start_fits : length bs < 2 ^ 64 → Fits w64 (at + r.size)
-  start_fits l = Fits-le start-in-bytes (record { fits = l })
+  start_fits l = Fits-le start_in_bytes (record { fits = l })
 
-  module _ (h : r.size ≡ 0 → ⊥) (b : Bool) (q : b ≡ is-start (mark_of (take (length bs - at) (drop at bs)))) where
-    here : start-end (records stored (drop at bs)) ≡ r.size + cond b 0 (start-end (records stored (drop (at + r.size) bs)))
+  module _ (h : r.size ≡ 0 → ⊥) (b : Bool) (q : b ≡ is_start (mark_of (take (length bs - at) (drop at bs)))) where
+    here : start_end (records stored (drop at bs)) ≡ r.size + cond b 0 (start_end (records stored (drop (at + r.size) bs)))
     here =
-        start-end-front (drop at bs) r f h
-        ∙ ap₂ (λ c xs. r.size + cond c 0 (start-end (records stored xs))) (ap (λ xs. is-start (mark_of xs)) (sym (from-is-drop at bs)) ∙ sym q)
+        start_end_front (drop at bs) r f h
+        ∙ ap₂ (λ c xs. r.size + cond c 0 (start_end (records stored xs))) (ap (λ xs. is_start (mark_of xs)) (sym (from_is_drop at bs)) ∙ sym q)
         (drop-drop r.size at bs)
 
-    pub start-less : length bs - (at + r.size) < length bs - at
-    start-less = let y = start-in-bytes in omega arith
+    pub start_less : length bs - (at + r.size) < length bs - at
+    start_less = let y = start_in_bytes in omega arith
 
-    pub start-found : b ≡ true → at + r.size ≡ start-end (records stored bs)
-    start-found e = let y : start-end (records stored (drop at bs)) ≡ r.size + 0 = here ∙ rw e in let z = i.same in omega arith
+    pub start_found : b ≡ true → at + r.size ≡ start_end (records stored bs)
+    start_found e = let y : start_end (records stored (drop at bs)) ≡ r.size + 0 = here ∙ rw e in let z = i.same in omega arith
 
-    pub start-later : b ≡ false → Start-so-far bs (at + r.size)
-    start-later e =
-        let y : start-end (records stored (drop at bs)) ≡ r.size + start-end (records stored (drop (at + r.size) bs)) = here ∙ rw e in
-        record { in_bytes = start-in-bytes; same = let z = i.same in omega arith }
+    pub start_later : b ≡ false → StartSoFar bs (at + r.size)
+    start_later e =
+        let y : start_end (records stored (drop at bs)) ≡ r.size + start_end (records stored (drop (at + r.size) bs)) = here ∙ rw e in
+        record { in_bytes = start_in_bytes; same = let z = i.same in omega arith }
 
-pub ruleset start-walk = (no-start-yet, no_start, start-in-bytes, start_fits, start-less, start-found, start-later)
+pub ruleset start_walk = (no_start_yet, no_start, start_in_bytes, start_fits, start_less, start_found, start_later)
 
 -- FIVE ZEROS where it ends
 module _ (end : ℕ) (t : List ℕ) (room : end + 5 ≤ length t) (at : ℕ) (h : at ≤ end) where
   abbrev up : List ℕ
-  up = bytes-moved at (at + 5) (end - at) t
+  up = bytes_moved at (at + 5) (end - at) t
 
   abbrev rest : List ℕ
   rest = drop (end + 5) t
 
-  front-five : length (take (at + 5) t) ≡ at + 5
-  front-five = length-take-le (at + 5) t (omega arith)
+  front_five : length (take (at + 5) t) ≡ at + 5
+  front_five = length-take-le (at + 5) t (omega arith)
 
-  up-shape : up ≡ take (at + 5) t ++ (drop at (take end t) ++ rest)
-  unfolding bytes-moved
-  up-shape =
+  up_shape : up ≡ take (at + 5) t ++ (drop at (take end t) ++ rest)
+  unfolding bytes_moved
+  up_shape =
       append_assoc (take (at + 5) t) (take (end - at) (drop at t)) (drop (at + 5 + (end - at)) t)
       ∙ ap₂ (λ xs k. take (at + 5) t ++ (xs ++ drop k t))
-      (part-of-front at (end - at) t (omega arith) ∙ ap (λ k. drop at (take k t)) (let e : at + (end - at) ≡ end = omega arith in e))
+      (part_of_front at (end - at) t (omega arith) ∙ ap (λ k. drop at (take k t)) (let e : at + (end - at) ≡ end = omega arith in e))
       (let e : at + 5 + (end - at) ≡ end + 5 = omega arith in e)
 
-  up-front : take at up ≡ take at (take end t)
-  up-front =
-      ap (take at) up-shape ∙ take-append-le at (take (at + 5) t) _ (let z = front-five in omega arith) ∙ take-take at (at + 5) t (omega arith)
+  up_front : take at up ≡ take at (take end t)
+  up_front =
+      ap (take at) up_shape ∙ take-append-le at (take (at + 5) t) _ (let z = front_five in omega arith) ∙ take-take at (at + 5) t (omega arith)
       ∙ sym (take-take at end t h)
 
-  up-end : drop (at + 5) up ≡ drop at (take end t) ++ rest
-  up-end = ap (drop (at + 5)) up-shape ∙ drop_at (take (at + 5) t) _ (at + 5) front-five
+  up_end : drop (at + 5) up ≡ drop at (take end t) ++ rest
+  up_end = ap (drop (at + 5)) up_shape ∙ drop_at (take (at + 5) t) _ (at + 5) front_five
 
-  pub zeros-put : cleared at 5 up ≡ with-zeros-at at (take end t) ++ rest
-  unfolding cleared with-zeros-at
-  zeros-put = ap₂ (λ xs ys. (xs ++ replicate 5 0) ++ ys) up-front up-end ∙ simp append_assoc
+  pub zeros_put : cleared at 5 up ≡ with_zeros_at at (take end t) ++ rest
+  unfolding cleared with_zeros_at
+  zeros_put = ap₂ (λ xs ys. (xs ++ replicate 5 0) ++ ys) up_front up_end ∙ simp append_assoc
 
-pub front-sized : (end : ℕ) (t : List ℕ) → end + 5 ≤ length t → end ≡ length (take end t)
-front-sized end t room = sym (length-take-le end t (omega arith))
+pub front_sized : (end : ℕ) (t : List ℕ) → end + 5 ≤ length t → end ≡ length (take end t)
+front_sized end t room = sym (length-take-le end t (omega arith))
 
-module _ (end : ℕ) (t : List ℕ) (room : end + 5 ≤ length t) (at : ℕ) (is : at ≡ start-end (records stored (take end t))) (h : at ≤ length (take end t)) where
-  pub start-within : at ≤ end
-  start-within = let z = length-take-le end t (omega arith) in omega arith
+module _ (end : ℕ) (t : List ℕ) (room : end + 5 ≤ length t) (at : ℕ) (is : at ≡ start_end (records stored (take end t))) (h : at ≤ length (take end t)) where
+  pub start_within : at ≤ end
+  start_within = let z = length-take-le end t (omega arith) in omega arith
 
-  pub five-fits : length t < 2 ^ 64 → Fits w64 (at + 5)
-  five-fits l = record { fits = let y = start-within in omega arith }
+  pub five_fits : length t < 2 ^ 64 → Fits w64 (at + 5)
+  five_fits l = record { fits = let y = start_within in omega arith }
 
-  pub room-to-move-up : at + 5 + (end - at) ≤ length t
-  room-to-move-up = let y = start-within in omega arith
+  pub room_to_move_up : at + 5 + (end - at) ≤ length t
+  room_to_move_up = let y = start_within in omega arith
 
-  pub room-to-clear : (u : List ℕ) → u ≡ bytes-moved at (at + 5) (end - at) t → (k : ℕ) → k ≤ 5 → at + k ≤ length u
-  unfolding bytes-moved
-  room-to-clear u e k h =
-      let y = start-within in
+  pub room_to_clear : (u : List ℕ) → u ≡ bytes_moved at (at + 5) (end - at) t → (k : ℕ) → k ≤ 5 → at + k ≤ length u
+  unfolding bytes_moved
+  room_to_clear u e k h =
+      let y = start_within in
       let z = length-drop at t in
       let l : length u ≡ length t = ap length e ∙ length-paste t (at + 5) (drop at t) (end - at) (omega arith) (omega arith) in
       omega arith
 
-  pub zeros-added : (u v : List ℕ) → u ≡ bytes-moved at (at + 5) (end - at) t → v ≡ cleared at 5 u → Zeros-added end t (end + 5) v
-  unfolding with-zeros
-  zeros-added u v e g =
+  pub zeros_added : (u v : List ℕ) → u ≡ bytes_moved at (at + 5) (end - at) t → v ≡ cleared at 5 u → ZerosAdded end t (end + 5) v
+  unfolding with_zeros
+  zeros_added u v e g =
       record {
         size = refl;
-        bytes = g ∙ ap (cleared at 5) e ∙ zeros-put end t room at start-within ∙ ap (λ k. with-zeros-at k (take end t) ++ drop (end + 5) t) is;
+        bytes = g ∙ ap (cleared at 5) e ∙ zeros_put end t room at start_within ∙ ap (λ k. with_zeros_at k (take end t) ++ drop (end + 5) t) is;
       }
 
 -- A STORED IMAGE MADE TODAY'S
@@ -183,25 +183,25 @@ module _ (end : ℕ) (t : List ℕ) (n : ℕ) (u : List ℕ) (c : Compacted end 
   abbrev new : List ℕ
   new = kept_of (take end t)
 
-  kept-front : take n u ≡ new
-  kept-front = ap (take n) c.bytes ∙ take_at new (drop n t) n (sym c.size)
+  kept_front : take n u ≡ new
+  kept_front = ap (take n) c.bytes ∙ take_at new (drop n t) n (sym c.size)
 
-  after-five : drop (n + 5) u ≡ drop (n + 5) t
-  after-five =
+  after_five : drop (n + 5) u ≡ drop (n + 5) t
+  after_five =
       ap (drop (n + 5)) c.bytes ∙ ap (λ k. drop k (new ++ drop n t)) (let s = c.size in let e : n + 5 ≡ length new + 5 = omega arith in e)
       ∙ drop-append-add new (drop n t) 5 ∙ drop-drop 5 n t
 
-  pub all-renewed : (k : ℕ) (v : List ℕ) → Zeros-added n u k v → Renewed end t k v
-  unfolding with-zeros
-  all-renewed k v z =
+  pub all_renewed : (k : ℕ) (v : List ℕ) → ZerosAdded n u k v → Renewed end t k v
+  unfolding with_zeros
+  all_renewed k v z =
       record {
-        size = z.size ∙ ap (λ j. j + 5) c.size ∙ sym (zeros-length (start-end (records stored new)) new);
+        size = z.size ∙ ap (λ j. j + 5) c.size ∙ sym (zeros_length (start_end (records stored new)) new);
         within = let y = z.size in let s = c.shorter in omega arith;
-        bytes = z.bytes ∙ ap₂ (λ xs ys. with-zeros xs ++ ys) kept-front (ap (λ j. drop j u) z.size ∙ after-five ∙ ap (λ j. drop j t) (sym z.size));
+        bytes = z.bytes ∙ ap₂ (λ xs ys. with_zeros xs ++ ys) kept_front (ap (λ j. drop j u) z.size ∙ after_five ∙ ap (λ j. drop j t) (sym z.size));
       }
 
-  pub room-for-five : end + 5 ≤ length t → n + 5 ≤ length u
-  room-for-five h =
+  pub room_for_five : end + 5 ≤ length t → n + 5 ≤ length u
+  room_for_five h =
       let y = length-append new (drop n t) in
       let z = length-drop n t in
       let l = ap length c.bytes in
@@ -209,9 +209,9 @@ module _ (end : ℕ) (t : List ℕ) (n : ℕ) (u : List ℕ) (c : Compacted end 
       let w = c.shorter in
       omega arith
 
-pub ruleset renews = (front-sized, start-within, five-fits, room-to-move-up, room-to-clear, zeros-added, all-renewed, room-for-five)
+pub ruleset renews = (front_sized, start_within, five_fits, room_to_move_up, room_to_clear, zeros_added, all_renewed, room_for_five)
 
 -- which is `compacted`, where the image is accepted
-pub renewed-compacted : (bs : List ℕ) (v : Delivery) (m : Machine) (b : ℕ) → stored-image bs ≡ loaded v m b → with-zeros (kept_of bs) ≡ compacted bs
-unfolding with-zeros
-renewed-compacted bs v m b e = sym (compacted-with-zeros bs v m b e)
+pub renewed_compacted : (bs : List ℕ) (v : Delivery) (m : Machine) (b : ℕ) → stored_image bs ≡ loaded v m b → with_zeros (kept_of bs) ≡ compacted bs
+unfolding with_zeros
+renewed_compacted bs v m b e = sym (compacted_with_zeros bs v m b e)

@@ -3,7 +3,7 @@ ghost use Rattle.std.specs.Prelude.{◌≡◌, ◌≤◌, length, take, replicat
 ghost use Rattle.model.specs.Convert.{records};
 ghost use Rattle.model.specs.Image.{stored};
 ghost use Rattle.compaction.specs.Compacted.{Compacted};
-ghost use Rattle.compaction.specs.Last.{last-places};
+ghost use Rattle.compaction.specs.Last.{last_places};
 
 use crate::front::front;
 use crate::last::{is_last, note_last};
@@ -11,7 +11,7 @@ use buffers::move_down;
 
 // The second walk: what stands at `from` is read as it was, since only bytes before `to` have changed.
 fn keep_last(buffer: &mut [u8], end: usize, last: &[usize; 8193]) -> usize
-    requires { (end ≤ length buffer.old) × (last.now ≡ last-places 0 (records stored (take end buffer.old)) (replicate 8193 0)) }
+    requires { (end ≤ length buffer.old) × (last.now ≡ last_places 0 (records stored (take end buffer.old)) (replicate 8193 0)) }
     ensures { Compacted end buffer.old result buffer.new }
 {
     let mut from = 0;

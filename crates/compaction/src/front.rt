@@ -1,5 +1,5 @@
 // The record at the front of some stored bytes: its size, and the word that it writes.
-ghost use Rattle.compaction.specs.Front.{Front-of};
+ghost use Rattle.compaction.specs.Front.{FrontOf};
 
 use fields::mark::{Mark, mark_of, size_of};
 use fields::number::number_4;
@@ -12,7 +12,7 @@ pub struct FrontRecord {
 }
 
 pub fn front(bytes: &[u8]) -> FrontRecord
-    ensures { Front-of bytes.now result }
+    ensures { FrontOf bytes.now result }
 {
     let nothing = FrontRecord {
         size: 0,

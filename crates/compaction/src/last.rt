@@ -2,13 +2,13 @@
 ghost use Rattle.std.specs.Prelude.{◌≡◌, ◌||◌, ◌≤◌, eqb, get_or};
 ghost use Rattle.model.specs.Convert.{records};
 ghost use Rattle.model.specs.Image.{stored};
-ghost use Rattle.compaction.specs.Last.{last-places};
+ghost use Rattle.compaction.specs.Last.{last_places};
 
 use crate::front::front;
 
 // The entry after the words' is for records that write none.
 pub fn note_last(bytes: &[u8], last: &mut [usize; 8193])
-    ensures { last.new ≡ last-places 0 (records stored bytes.now) last.old }
+    ensures { last.new ≡ last_places 0 (records stored bytes.now) last.old }
 {
     let mut at = 0;
     loop {

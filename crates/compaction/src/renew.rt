@@ -1,6 +1,6 @@
 // A stored image made today's: of the WD records the last of each address, and five zero bytes after ST.
 ghost use Rattle.std.specs.Prelude.{◌+◌, ◌≤◌, length};
-ghost use Rattle.compaction.specs.Renewed.{Renewed, Zeros-added};
+ghost use Rattle.compaction.specs.Renewed.{Renewed, ZerosAdded};
 
 use crate::compact::compact;
 use crate::start::start_end;
@@ -8,7 +8,7 @@ use crate::start::start_end;
 // What follows ST moves up.
 fn add_zeros(buffer: &mut [u8], end: usize) -> usize
     requires { end + 5 ≤ length buffer.old }
-    ensures { Zeros-added end buffer.old result buffer.new }
+    ensures { ZerosAdded end buffer.old result buffer.new }
 {
     let at = start_end(&buffer[..end]);
     buffers::move_up(buffer, at, at + 5, end - at);

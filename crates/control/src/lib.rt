@@ -2,14 +2,14 @@
 ghost use Rattle.std.specs.Prelude.{◌≡◌, true, List, map, ◌+◌, ◌≤◌, length};
 ghost use Rattle.model.specs.Words as Words;
 ghost use Rattle.model.specs.Registers as Registers;
-ghost use Rattle.model.specs.Questions.{return-questions, transfer-questions};
+ghost use Rattle.model.specs.Questions.{return_questions, transfer_questions};
 ghost use Rattle.model.specs.Program.{finish};
 ghost use Rattle.model.specs.Step as Step;
-ghost use Rattle.words.specs.View.{as_pointer, Pointer-within};
+ghost use Rattle.words.specs.View.{as_pointer, PointerWithin};
 ghost use Rattle.opcodes.specs.Table.{taken};
-ghost use Rattle.segments.specs.Translation.{as-dbr};
-ghost use Rattle.state.specs.View.{registers-with, as-registers, as-pointers, Ready, Does, Does-with-any-prs, Does-in-any-memory, Does-after-look};
-ghost use Rattle.control.specs.Call.{Enters, ring-by, checked-by, ringed-by, Ring-within, Ring-right};
+ghost use Rattle.segments.specs.Translation.{as_dbr};
+ghost use Rattle.state.specs.View.{registers_with, as_registers, as_pointers, Ready, Does, DoesWithAnyPrs, DoesInAnyMemory, DoesAfterLook};
+ghost use Rattle.control.specs.Call.{Enters, ring_by, CheckedBy, ringed_by, RingWithin, RingRight};
 
 use questions::Use;
 use segments::translate::{Dbr, Translated};
@@ -31,7 +31,7 @@ fn entered(core: Core, p: Pointer, d: Descriptor) -> After
 // TRA, TZE, TMI: one that is not taken asks nothing of its target.
 pub fn transfer(core: Core, code: Descriptor, memory: &[u64], opcode: u8, t: Pointer) -> After
     requires { Ready core memory.now }
-    ensures { Does-with-any-prs core code memory.now (λ r. Step.transfer (taken opcode core.a) r (as_pointer t)) result memory.now }
+    ensures { DoesWithAnyPrs core code memory.now (λ r. Step.transfer (taken opcode core.a) r (as_pointer t)) result memory.now }
 {
     if !opcodes::arithmetic::is_taken(opcode, core.a) {
         return state::completed(core, code);
@@ -42,7 +42,7 @@ pub fn transfer(core: Core, code: Descriptor, memory: &[u64], opcode: u8, t: Poi
 // A transfer that is taken.
 fn move_to(core: Core, code: Descriptor, memory: &[u64], t: Pointer) -> After
     requires { Ready core memory.now }
-    ensures { Does-with-any-prs core code memory.now (λ r. Step.transfer true r (as_pointer t)) result memory.now }
+    ensures { DoesWithAnyPrs core code memory.now (λ r. Step.transfer true r (as_pointer t)) result memory.now }
 {
     let dbr = core.dbr;
     let ipr = core.ipr;
@@ -56,7 +56,7 @@ fn move_to(core: Core, code: Descriptor, memory: &[u64], t: Pointer) -> After
 
 // What it does with the look's answer, wherever the descriptor was found.
 pub fn moved_to(core: Core, code: Descriptor, t: Pointer, x: Translated) -> After
-    ensures { (ps : List Words.Pointer) → Does-after-look core code ps (transfer-questions (as_pointer core.ipr) (as_pointer t)) (as_pointer t) x (λ _. finish (Registers.with-ipr (as_pointer t) (registers-with core ps))) result ps }
+    ensures { (ps : List Words.Pointer) → DoesAfterLook core code ps (transfer_questions (as_pointer core.ipr) (as_pointer t)) (as_pointer t) x (λ _. finish (Registers.with_ipr (as_pointer t) (registers_with core ps))) result ps }
 {
     match x {
         Translated::Refused(n) => state::faulted(core, code, n, t),
@@ -74,14 +74,14 @@ pub enum Checked {
 // 11 to 15 and 26 to 30 of a pointer, for a CALL at `ipr`.
 pub fn check(dbr: Dbr, memory: &[u64], ipr: Pointer, t: Pointer) -> Checked
     requires { dbr.address + dbr.length ≤ length memory.now }
-    ensures { checked-by (as-dbr dbr) memory.now (as_pointer ipr) (as_pointer t) result }
+    ensures { CheckedBy (as_dbr dbr) memory.now (as_pointer ipr) (as_pointer t) result }
 {
     ring_by(t, segments::access::look(Use::Call, dbr, memory, ipr, t))
 }
 
 // What the check makes of the look's answer.
 pub fn ring_by(t: Pointer, x: Translated) -> Checked
-    ensures { result ≡ ring-by (as_pointer t) x }
+    ensures { result ≡ ring_by (as_pointer t) x }
 {
     match x {
         Translated::Refused(n) => Checked::Bad(n),
@@ -91,7 +91,7 @@ pub fn ring_by(t: Pointer, x: Translated) -> Checked
 
 pub fn call(core: Core, code: Descriptor, prs: &mut [u16; 24], memory: &[u64], t: Pointer) -> After
     requires { Ready core memory.now }
-    ensures { Does core code (as-pointers prs.old) memory.now (Step.call (as-registers core prs.old) (as_pointer t)) result (as-pointers prs.new) memory.now }
+    ensures { Does core code (as_pointers prs.old) memory.now (Step.call (as_registers core prs.old) (as_pointer t)) result (as_pointers prs.new) memory.now }
 {
     let dbr = core.dbr;
     let ipr = core.ipr;
@@ -100,8 +100,8 @@ pub fn call(core: Core, code: Descriptor, prs: &mut [u16; 24], memory: &[u64], t
 
 // What CALL does with the check's answer: the move, by its ring.
 pub fn called(core: Core, code: Descriptor, prs: &mut [u16; 24], t: Pointer, x: Checked) -> After
-    requires { Ring-within x }
-    ensures { Does-in-any-memory core code (as-pointers prs.old) (ringed-by x (as_pointer t) (λ n. finish (Step.called n (as_pointer t) (as-registers core prs.old)))) (Ring-right x) result (as-pointers prs.new) }
+    requires { RingWithin x }
+    ensures { DoesInAnyMemory core code (as_pointers prs.old) (ringed_by x (as_pointer t) (λ n. finish (Step.called n (as_pointer t) (as_registers core prs.old)))) (RingRight x) result (as_pointers prs.new) }
 {
     let ipr = core.ipr;
     match x {
@@ -118,7 +118,7 @@ pub fn called(core: Core, code: Descriptor, prs: &mut [u16; 24], t: Pointer, x: 
 // Each PR's ring becomes at least `ring`.
 fn raise_rings(prs: &mut [u16; 24], ring: u64)
     requires { ring ≤ 7 }
-    ensures { as-pointers prs.new ≡ map (Registers.with-ring-at-least ring) (as-pointers prs.old) }
+    ensures { as_pointers prs.new ≡ map (Registers.with_ring_at_least ring) (as_pointers prs.old) }
 {
     let mut k: usize = 0;
     while k < 8 {
@@ -136,8 +136,8 @@ pub fn return_to(
     memory: &[u64],
     t: Pointer,
 ) -> After
-    requires { Ready core memory.now × Pointer-within t }
-    ensures { Does core code (as-pointers prs.old) memory.now (Step.return (as-registers core prs.old) (as_pointer t)) result (as-pointers prs.new) memory.now }
+    requires { Ready core memory.now × PointerWithin t }
+    ensures { Does core code (as_pointers prs.old) memory.now (Step.return (as_registers core prs.old) (as_pointer t)) result (as_pointers prs.new) memory.now }
 {
     let dbr = core.dbr;
     returned(
@@ -158,7 +158,7 @@ pub fn returned(
     x: Translated,
 ) -> After
     requires { t.ring ≤ 7 }
-    ensures { Does-after-look core code (as-pointers prs.old) (return-questions (as_pointer t)) (as_pointer t) x (λ _. finish (Step.returned (as_pointer t) (as-registers core prs.old))) result (as-pointers prs.new) }
+    ensures { DoesAfterLook core code (as_pointers prs.old) (return_questions (as_pointer t)) (as_pointer t) x (λ _. finish (Step.returned (as_pointer t) (as_registers core prs.old))) result (as_pointers prs.new) }
 {
     match x {
         Translated::Refused(n) => state::faulted(core, code, n, t),

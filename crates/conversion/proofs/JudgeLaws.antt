@@ -5,22 +5,22 @@ use mathlib.Core.List.{List}
 use Prim.Native.Nat.{ℕ, ◌≤◌}
 use lib.ListN.{length, take}
 use lib.Seq.{length-take-le}
-use Rattle.model.specs.Questions.{start-questions}
+use Rattle.model.specs.Questions.{start_questions}
 use Rattle.model.specs.Image as Image
-use Rattle.host.specs.Record.{machine-of, delivery-of}
+use Rattle.host.specs.Record.{machine_of, delivery_of}
 use Rattle.loading.specs.declared.Loading.{Loading}
-use Rattle.loading.specs.View.{as-loading, Loading-within}
-use Rattle.image.proofs.LoadLaws.{words-within, loaded-delivery, loaded-full}
+use Rattle.loading.specs.View.{as_loading, LoadingWithin}
+use Rattle.image.proofs.LoadLaws.{words_within, loaded_delivery, loaded_full}
 
-module _ (l : Loading) (m : List ℕ) (w : Loading-within l m) (full : length m ≡ 8320) (h : l.has_memory ≡ true) where
-  pub memory-part : l.words ≤ length m
-  memory-part = words-within l m w full h
+module _ (l : Loading) (m : List ℕ) (w : LoadingWithin l m) (full : length m ≡ 8320) (h : l.has_memory ≡ true) where
+  pub memory_part : l.words ≤ length m
+  memory_part = words_within l m w full h
 
-  pub memory-part-size : l.words ≡ length (take l.words m)
-  memory-part-size = sym (length-take-le l.words m memory-part)
+  pub memory_part_size : l.words ≡ length (take l.words m)
+  memory_part_size = sym (length-take-le l.words m memory_part)
 
-  pub judged-by : l.has_registers ≡ true → (n : ℕ) → n ≡ start-questions (delivery-of l.registers) (machine-of l.registers (take l.words m)) →
-      n ≡ start-questions (as-loading l m).delivery (Image.machine-of (as-loading l m))
-  judged-by g n e = e ∙ ap₂ start-questions (sym (loaded-delivery l m)) (sym (loaded-full l m full h g))
+  pub judged_by : l.has_registers ≡ true → (n : ℕ) → n ≡ start_questions (delivery_of l.registers) (machine_of l.registers (take l.words m)) →
+      n ≡ start_questions (as_loading l m).delivery (Image.machine_of (as_loading l m))
+  judged_by g n e = e ∙ ap₂ start_questions (sym (loaded_delivery l m)) (sym (loaded_full l m full h g))
 
-pub ruleset judges = (memory-part, memory-part-size, judged-by)
+pub ruleset judges = (memory_part, memory_part_size, judged_by)

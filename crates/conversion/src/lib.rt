@@ -1,12 +1,12 @@
 // A stored image converted, whole or in pieces: its records are judged as loading does, the last WD of each address is kept, and ST
 // gains five zero bytes.
 ghost use Rattle.std.specs.Prelude.{◌≡◌, true, ◌+◌, ◌≤◌, length};
-ghost use Rattle.model.specs.Convert.{convert-call};
-ghost use Rattle.model.specs.Image.{machine-of};
-ghost use Rattle.model.specs.Questions.{start-questions};
-ghost use Rattle.loading.specs.View.{as-loading, Loading-within};
-ghost use Rattle.calls.specs.Call.{Called-as};
-ghost use Rattle.conversion.specs.Piece.{Piece-converted, Room-made};
+ghost use Rattle.model.specs.Convert.{convert_call};
+ghost use Rattle.model.specs.Image.{machine_of};
+ghost use Rattle.model.specs.Questions.{start_questions};
+ghost use Rattle.loading.specs.View.{as_loading, LoadingWithin};
+ghost use Rattle.calls.specs.Call.{CalledAs};
+ghost use Rattle.conversion.specs.Piece.{PieceConverted, RoomMade};
 
 use calls::Called;
 use image::load::LoadOutcome;
@@ -30,8 +30,8 @@ pub struct Converted {
 
 // 1 to 4 of what an image recorded.
 fn judge(loading: Loading, store: &[u64]) -> u8
-    requires { Loading-within loading store.now × (length store.now ≡ 8320) × (loading.has_memory ≡ true) × (loading.has_registers ≡ true) }
-    ensures { result ≡ start-questions (as-loading loading store.now).delivery (machine-of (as-loading loading store.now)) }
+    requires { LoadingWithin loading store.now × (length store.now ≡ 8320) × (loading.has_memory ≡ true) × (loading.has_registers ≡ true) }
+    ensures { result ≡ start_questions (as_loading loading store.now).delivery (machine_of (as_loading loading store.now)) }
 {
     let words = loading.words as usize;
     let registers = loading.registers;
@@ -48,8 +48,8 @@ pub fn convert_piece(
     size: usize,
     ended: bool,
 ) -> Converted
-    requires { Loading-within loading store.old × (length store.old ≡ 8320) × (kept ≤ size) × (size + 5 ≤ length buffer.old) }
-    ensures { Piece-converted loading store.old buffer.old kept size ended result store.new buffer.new }
+    requires { LoadingWithin loading store.old × (length store.old ≡ 8320) × (kept ≤ size) × (size + 5 ≤ length buffer.old) }
+    ensures { PieceConverted loading store.old buffer.old kept size ended result store.new buffer.new }
 {
     let x = image::load::load(loading, store, &buffer[kept..size], ended);
     let after = x.loading;
@@ -82,7 +82,7 @@ pub fn convert_piece(
 // Records that later ones supersede are dropped early, and the bytes that wait follow the rest.
 pub fn make_room(buffer: &mut [u8], kept: usize, size: usize) -> usize
     requires { (kept ≤ size) × (size ≤ length buffer.old) }
-    ensures { Room-made kept size buffer.old result buffer.new }
+    ensures { RoomMade kept size buffer.old result buffer.new }
 {
     let n = compaction::compact::compact(buffer, kept);
     buffers::move_down(buffer, kept, n, size - kept);
@@ -91,7 +91,7 @@ pub fn make_room(buffer: &mut [u8], kept: usize, size: usize) -> usize
 
 // A whole image, where it stands, with five bytes more for ST. Where there are fewer, no byte of an image is there either: 42.
 pub fn convert(image: &mut [u8]) -> Called
-    ensures { Called-as (convert-call image.old) result image.new }
+    ensures { CalledAs (convert_call image.old) result image.new }
 {
     if image.len() < 5 {
         return Called {

@@ -1,6 +1,6 @@
 // The laptop's program for stored images: an old image on standard input, the new one on standard output.
 ghost use Rattle.std.specs.Prelude.{◌≡◌, ◌+◌, ◌≤◌, length};
-ghost use Rattle.convert.specs.Turn.{Goes_on, Outcome-within, Progress-fits, Room-left, Turn-within};
+ghost use Rattle.convert.specs.Turn.{Goes_on, OutcomeWithin, ProgressFits, RoomLeft, TurnWithin};
 
 use conversion::{ConvertOutcome, Converted};
 use loading::Loading;
@@ -42,7 +42,7 @@ fn empty_buffer() -> [u8; 524288]
 // Where less than half of the buffer is free, records that later ones supersede are dropped.
 fn with_room(buffer: &mut [u8], kept: usize, size: usize) -> Room
     requires { (kept ≤ size) × (size + 5 ≤ length buffer.old) }
-    ensures { Room-left result buffer.old buffer.new }
+    ensures { RoomLeft result buffer.old buffer.new }
 {
     if size <= 262144 {
         return Room { kept, size };
@@ -56,7 +56,7 @@ fn with_room(buffer: &mut [u8], kept: usize, size: usize) -> Room
 
 // What the outcome of a piece leaves to do.
 fn next_turn(x: Converted, buffer: &mut [u8], size: usize) -> Turn
-    requires { (5 ≤ length buffer.old) × Outcome-within x.outcome size buffer.old }
+    requires { (5 ≤ length buffer.old) × OutcomeWithin x.outcome size buffer.old }
     ensures { Goes_on x.loading result buffer.new }
 {
     let loading = x.loading;
@@ -91,8 +91,8 @@ fn read_more(buffer: &mut [u8], size: usize) -> Piece
 
 // One piece more, read and converted.
 fn convert_once(loading: Loading, room: Room, store: &mut [u64], buffer: &mut [u8]) -> Turn
-    requires { Turn-within loading room store.old buffer.old }
-    ensures { Turn-within result.loading result.room store.new buffer.new × Progress-fits result.progress buffer.new }
+    requires { TurnWithin loading room store.old buffer.old }
+    ensures { TurnWithin result.loading result.room store.new buffer.new × ProgressFits result.progress buffer.new }
 {
     let kept = room.kept;
     let piece = read_more(buffer, room.size);
@@ -111,7 +111,7 @@ fn convert_once(loading: Loading, room: Room, store: &mut [u64], buffer: &mut [u
 // Reads and converts until an image is whole or refused.
 fn convert_input(buffer: &mut [u8]) -> Progress
     requires { 5 ≤ length buffer.old }
-    ensures { Progress-fits result buffer.new }
+    ensures { ProgressFits result buffer.new }
 {
     let mut store = loading::empty_store();
     let mut x = Turn {

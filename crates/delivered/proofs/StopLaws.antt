@@ -7,146 +7,146 @@ use Prim.Native.Nat.{ℕ, ◌+◌, ◌≤◌, ◌<◌}
 use native.Mathlib.Omega.{arith}
 use lib.ListN.{length}
 use Rattle.model.specs.Words as Words
-use Rattle.model.specs.Registers.{Delivery, no-delivery, Machine}
-use Rattle.model.specs.Questions.{start-questions}
+use Rattle.model.specs.Registers.{Delivery, no_delivery, Machine}
+use Rattle.model.specs.Questions.{start_questions}
 use Rattle.model.specs.Program.{faults, completes, halts, execute}
-use Rattle.model.specs.Step.{step, pointer-words}
-use Rattle.model.specs.Deliver.{step-with}
+use Rattle.model.specs.Step.{step, pointer_words}
+use Rattle.model.specs.Deliver.{step_with}
 use Rattle.model.specs.Run as Run
 use Rattle.model.specs.Run.{ran, total_of}
-use Rattle.model.proofs.ProgramLaws.{Size-kept}
-use Rattle.model.proofs.DeliverLaws.{step-keeps-size, step-keeps-passing}
-use Rattle.model.proofs.TickLaws.{pointer-words-within}
-use Rattle.words.specs.View.{as_pointer, Pointer-within}
+use Rattle.model.proofs.ProgramLaws.{SizeKept}
+use Rattle.model.proofs.DeliverLaws.{step_keeps_size, step_keeps_passing}
+use Rattle.model.proofs.TickLaws.{pointer_words_within}
+use Rattle.words.specs.View.{as_pointer, PointerWithin}
 use Rattle.words.specs.declared.pointer.Pointer.{Pointer}
-use Rattle.state.specs.View.{as-pointers, machine-with, as-machine, ended}
+use Rattle.state.specs.View.{as_pointers, machine_with, as_machine, ended}
 use Rattle.state.specs.declared.Core.{Core}
 use Rattle.state.specs.declared.End.{End}
 use Rattle.state.specs.declared.End.TheVariants.{Completed, Halted, Faulted}
-use Rattle.state.proofs.PassingLaws.{ipr-passing}
+use Rattle.state.proofs.PassingLaws.{ipr_passing}
 use Rattle.state.specs.declared.reply.Reply.TheVariants as Reply
 use Rattle.dispatch.specs.Plain.{plain_step, stopped}
-use Rattle.dispatch.proofs.PlainLaws.{plain-stops}
-use Rattle.settle.specs.Settles.{End-within, Settles}
+use Rattle.dispatch.proofs.PlainLaws.{plain_stops}
+use Rattle.settle.specs.Settles.{EndWithin, Settles}
 use Rattle.restore.specs.declared.Settled.{Settled}
-use Rattle.run.specs.Run.{last-by, Noted, On-the-way}
-use Rattle.run.proofs.RunLaws.{run-faults, trace-faults, last-faults, way-starts, way-faults, way-halts, way-goes-on}
+use Rattle.run.specs.Run.{last_by, Noted, OnTheWay}
+use Rattle.run.proofs.RunLaws.{run_faults, trace_faults, last_faults, way_starts, way_faults, way_halts, way_goes_on}
 use Rattle.answers.specs.declared.Answered.{Answered}
-use Rattle.plain.specs.Plain.{Plain-as}
-use Rattle.delivered.specs.Parts.{At-a-stop, Part-as}
-use Rattle.delivered.proofs.FollowLaws.{passes-plainly}
+use Rattle.plain.specs.Plain.{PlainAs}
+use Rattle.delivered.specs.Parts.{AtAStop, PartAs}
+use Rattle.delivered.proofs.FollowLaws.{passes_plainly}
 
 -- A STOP once more, as a single step
-module _ (c : Core) (prs memory trace : List ℕ) (e : start-questions no-delivery (as-machine c prs memory) ≡ 0) (s : At-a-stop (as-machine c prs memory)) (x : Answered)
-    (prs-now memory-now trace-now : List ℕ) (p : Plain-as true 1 c prs memory trace x prs-now memory-now trace-now) where
-  stopped-there : as-machine x.core prs-now memory-now ≡ as-machine c prs memory
+module _ (c : Core) (prs memory trace : List ℕ) (e : start_questions no_delivery (as_machine c prs memory) ≡ 0) (s : AtAStop (as_machine c prs memory)) (x : Answered)
+    (prs_now memory_now trace_now : List ℕ) (p : PlainAs true 1 c prs memory trace x prs_now memory_now trace_now) where
+  stopped_there : as_machine x.core prs_now memory_now ≡ as_machine c prs memory
   unfolding ran
-  stopped-there =
-      (p.runs e).machine-same
-      ∙ ap (λ (y : Run.Ran). y.machine) (run-faults plain_step no-delivery 0 0 (as-machine c prs memory) s.number s.pointer s.stops)
+  stopped_there =
+      (p.runs e).machine_same
+      ∙ ap (λ (y : Run.Ran). y.machine) (run_faults plain_step no_delivery 0 0 (as_machine c prs memory) s.number s.pointer s.stops)
 
-  words-read : x.pointers ≡ pointer-words (as-machine c prs memory)
+  words_read : x.pointers ≡ pointer_words (as_machine c prs memory)
   unfolding total_of
-  words-read =
-      (p.runs e).pointers-same
-      ∙ ap (λ l. total_of l + last-by plain_step 1 (as-machine c prs memory)) (trace-faults plain_step no-delivery 0 (as-machine c prs memory) s.number s.pointer s.stops)
-      ∙ (let z = last-faults plain_step no-delivery 0 (as-machine c prs memory) s.number s.pointer s.stops in omega arith)
+  words_read =
+      (p.runs e).pointers_same
+      ∙ ap (λ l. total_of l + last_by plain_step 1 (as_machine c prs memory)) (trace_faults plain_step no_delivery 0 (as_machine c prs memory) s.number s.pointer s.stops)
+      ∙ (let z = last_faults plain_step no_delivery 0 (as_machine c prs memory) s.number s.pointer s.stops in omega arith)
 
-  pub stop-counted : (x.pointers ≡ pointer-words (as-machine c prs memory)) × (x.pointers ≤ 64) × (as-machine c prs-now memory-now ≡ as-machine c prs memory)
-  stop-counted = (
-    words-read,
-    omega (arith, words-read, pointer-words-within (as-machine c prs memory)),
-    ap (λ ps. machine-with c ps memory-now) (ap (λ (y : Machine). y.registers.prs) stopped-there) ∙ ap (λ l. machine-with c (as-pointers prs) l) (ap (λ (y : Machine). y.memory) stopped-there),
+  pub stop_counted : (x.pointers ≡ pointer_words (as_machine c prs memory)) × (x.pointers ≤ 64) × (as_machine c prs_now memory_now ≡ as_machine c prs memory)
+  stop_counted = (
+    words_read,
+    omega (arith, words_read, pointer_words_within (as_machine c prs memory)),
+    ap (λ ps. machine_with c ps memory_now) (ap (λ (y : Machine). y.registers.prs) stopped_there) ∙ ap (λ l. machine_with c (as_pointers prs) l) (ap (λ (y : Machine). y.memory) stopped_there),
   )
 
 -- THE STEP THAT STOPPED, settled; the machine stands as it stood
-module _ (v : Delivery) (m : Machine) (e : start-questions v m ≡ 0) where
-  pub stop-needs : (n : ℕ) (p : Words.Pointer) → plain_step m ≡ faults n p → (start-questions no-delivery m ≡ 0) × At-a-stop m
-  stop-needs n p s = (passes-plainly v m e m e, record { number = n; pointer = p; stops = s })
+module _ (v : Delivery) (m : Machine) (e : start_questions v m ≡ 0) where
+  pub stop_needs : (n : ℕ) (p : Words.Pointer) → plain_step m ≡ faults n p → (start_questions no_delivery m ≡ 0) × AtAStop m
+  stop_needs n p s = (passes_plainly v m e m e, record { number = n; pointer = p; stops = s })
 
   module _ (now : Machine) (same : now ≡ m) where
-    pub settle-needs : (n : ℕ) (p : Pointer) → plain_step m ≡ faults n (as_pointer p) → Pointer-within p →
-        (start-questions v now ≡ 0) × (step now ≡ execute now (stopped (length now.memory) n (as_pointer p))) × Pointer-within p
-    settle-needs n p s w = (ap (start-questions v) same ∙ e, plain-stops now n (as_pointer p) (ap plain_step same ∙ s), w)
+    pub settle_needs : (n : ℕ) (p : Pointer) → plain_step m ≡ faults n (as_pointer p) → PointerWithin p →
+        (start_questions v now ≡ 0) × (step now ≡ execute now (stopped (length now.memory) n (as_pointer p))) × PointerWithin p
+    settle_needs n p s w = (ap (start_questions v) same ∙ e, plain_stops now n (as_pointer p) (ap plain_step same ∙ s), w)
 
     module _ (y : Settled) (k : Machine) (d : Settles v now y k) where
-      ended-as : (z : End) → y.end ≡ z → ended m (step-with v m) z k
-      ended-as z f = subst (λ q. ended q (step-with v q) z k) same (subst (λ q. ended now (step-with v now) q k) f d.ends)
+      ended_as : (z : End) → y.end ≡ z → ended m (step_with v m) z k
+      ended_as z f = subst (λ q. ended q (step_with v q) z k) same (subst (λ q. ended now (step_with v now) q k) f d.ends)
 
-      completed-so : y.end ≡ Completed → step-with v m ≡ completes k
+      completed_so : y.end ≡ Completed → step_with v m ≡ completes k
       unfolding ended
-      completed-so f = ended-as Completed f
+      completed_so f = ended_as Completed f
 
-      halted-so : y.end ≡ Halted → step-with v m ≡ halts k
+      halted_so : y.end ≡ Halted → step_with v m ≡ halts k
       unfolding ended
-      halted-so f = ended-as Halted f
+      halted_so f = ended_as Halted f
 
-      passes-completed : y.end ≡ Completed → start-questions v k ≡ 0
-      passes-completed f = step-keeps-passing v m k e (inl (completed-so f))
+      passes_completed : y.end ≡ Completed → start_questions v k ≡ 0
+      passes_completed f = step_keeps_passing v m k e (inl (completed_so f))
 
-      passes-halted : y.end ≡ Halted → start-questions v k ≡ 0
-      passes-halted f = step-keeps-passing v m k e (inr (halted-so f))
+      passes_halted : y.end ≡ Halted → start_questions v k ≡ 0
+      passes_halted f = step_keeps_passing v m k e (inr (halted_so f))
 
 -- IPR fits the trace after it
-module _ (v : Delivery) (m : Machine) (e : start-questions v m ≡ 0) (now : Machine) (same : now ≡ m) (y : Settled) (prs memory : List ℕ)
-    (d : Settles v now y (as-machine y.core prs memory)) where
-  pub ipr-completed : y.end ≡ Completed → Pointer-within y.core.ipr
-  ipr-completed f = ipr-passing _ y.core prs memory (passes-completed v m e now same y (as-machine y.core prs memory) d f)
+module _ (v : Delivery) (m : Machine) (e : start_questions v m ≡ 0) (now : Machine) (same : now ≡ m) (y : Settled) (prs memory : List ℕ)
+    (d : Settles v now y (as_machine y.core prs memory)) where
+  pub ipr_completed : y.end ≡ Completed → PointerWithin y.core.ipr
+  ipr_completed f = ipr_passing _ y.core prs memory (passes_completed v m e now same y (as_machine y.core prs memory) d f)
 
-  pub ipr-halted : y.end ≡ Halted → Pointer-within y.core.ipr
-  ipr-halted f = ipr-passing _ y.core prs memory (passes-halted v m e now same y (as-machine y.core prs memory) d f)
+  pub ipr_halted : y.end ≡ Halted → PointerWithin y.core.ipr
+  ipr_halted f = ipr_passing _ y.core prs memory (passes_halted v m e now same y (as_machine y.core prs memory) d f)
 
 -- and the part that it is
-module _ (v : Delivery) (b c before : ℕ) (m : Machine) (t : List ℕ) (e : start-questions v m ≡ 0) (h : c < b) (last : ℕ) (counted : last ≡ pointer-words m) (few : last ≤ 64)
+module _ (v : Delivery) (b c before : ℕ) (m : Machine) (t : List ℕ) (e : start_questions v m ≡ 0) (h : c < b) (last : ℕ) (counted : last ≡ pointer_words m) (few : last ≤ 64)
     (now : Machine) (same : now ≡ m) (y : Settled) (k : Machine) (d : Settles v now y k) where
-  starts : On-the-way (step-with v) v b c m t c 0 m t
-  starts = way-starts (step-with v) v b c m t (omega arith) e
+  starts : OnTheWay (step_with v) v b c m t c 0 m t
+  starts = way_starts (step_with v) v b c m t (omega arith) e
 
   module _ (u : List ℕ) (w : Noted c (record { ipr = k.registers.ipr; pointers = last }) t u) (core : Core) where
-    pub stop-completed : y.end ≡ Completed →
-        Part-as v b c before m t (record { core = core; reply = Reply.Spent (c + 1); count = c + 1; read = before + last; last = 0; is_last = false }) k u
-    stop-completed f =
+    pub stop_completed : y.end ≡ Completed →
+        PartAs v b c before m t (record { core = core; reply = Reply.Spent (c + 1); count = c + 1; read = before + last; last = 0; is_last = false }) k u
+    stop_completed f =
         record {
           words = 0 + last;
           read_same = omega arith;
           goes_on = λ _. (
-            way-goes-on (step-with v) v b c m t c 0 m t starts h last (sym counted) k u w (completed-so v m e now same y k d f) (passes-completed v m e now same y k d f)
-                (subst (Size-kept (length m.memory)) (completed-so v m e now same y k d f) (step-keeps-size v m)),
+            way_goes_on (step_with v) v b c m t c 0 m t starts h last (sym counted) k u w (completed_so v m e now same y k d f) (passes_completed v m e now same y k d f)
+                (subst (SizeKept (length m.memory)) (completed_so v m e now same y k d f) (step_keeps_size v m)),
             omega arith,
           );
           ends = λ g. absurd (false≢true g);
           counted = refl;
-          count-within = omega arith;
-          pointer-within = tt;
+          count_within = omega arith;
+          pointer_within = tt;
           few = omega arith;
         }
 
-    pub stop-halted : y.end ≡ Halted →
-        Part-as v b c before m t (record { core = core; reply = Reply.Halted (c + 1); count = c + 1; read = before + last; last = 0; is_last = true }) k u
-    stop-halted f =
+    pub stop_halted : y.end ≡ Halted →
+        PartAs v b c before m t (record { core = core; reply = Reply.Halted (c + 1); count = c + 1; read = before + last; last = 0; is_last = true }) k u
+    stop_halted f =
         record {
           words = 0 + last;
           read_same = omega arith;
           goes_on = λ g. absurd (true≢false g);
-          ends = λ _. way-halts (step-with v) v b c m t c 0 m t starts h last (sym counted) k u w (halted-so v m e now same y k d f) (passes-halted v m e now same y k d f);
+          ends = λ _. way_halts (step_with v) v b c m t c 0 m t starts h last (sym counted) k u w (halted_so v m e now same y k d f) (passes_halted v m e now same y k d f);
           counted = refl;
-          count-within = omega arith;
-          pointer-within = tt;
+          count_within = omega arith;
+          pointer_within = tt;
           few = omega arith;
         }
 
-  pub stop-faulted : (n : ℕ) (p : Pointer) → y.end ≡ Faulted n p → (core : Core) →
-      Part-as v b c before m t (record { core = core; reply = Reply.Fault n c p; count = c; read = before; last = last; is_last = true }) k t
+  pub stop_faulted : (n : ℕ) (p : Pointer) → y.end ≡ Faulted n p → (core : Core) →
+      PartAs v b c before m t (record { core = core; reply = Reply.Fault n c p; count = c; read = before; last = last; is_last = true }) k t
   unfolding ended
-  stop-faulted n p f core =
-      let z = ended-as v m e now same y k d (Faulted n p) f in
+  stop_faulted n p f core =
+      let z = ended_as v m e now same y k d (Faulted n p) f in
       record {
         words = 0;
         read_same = omega arith;
         goes_on = λ g. absurd (true≢false g);
-        ends = λ _. way-faults (step-with v) v b c m t c 0 m t starts h last (sym counted) k n p z.0 z.1;
+        ends = λ _. way_faults (step_with v) v b c m t c 0 m t starts h last (sym counted) k n p z.0 z.1;
         counted = refl;
-        count-within = omega arith;
-        pointer-within = subst End-within f d.within;
+        count_within = omega arith;
+        pointer_within = subst EndWithin f d.within;
         few = omega arith;
       }

@@ -1,15 +1,15 @@
 // A run with its faults delivered and its frames taken up, in parts: plain steps, and the step at which they stop.
 ghost use Rattle.std.specs.Prelude.{◌≡◌, ◌*◌, ◌≤◌, ◌<◌};
-ghost use Rattle.model.specs.Registers.{no-delivery};
-ghost use Rattle.model.specs.Questions.{start-questions};
+ghost use Rattle.model.specs.Registers.{no_delivery};
+ghost use Rattle.model.specs.Questions.{start_questions};
 ghost use Rattle.model.specs.Program.{faults};
-ghost use Rattle.model.specs.Step.{pointer-words};
-ghost use Rattle.model.specs.Deliver.{step-with};
-ghost use Rattle.words.specs.View.{as_pointer, Pointer-within};
-ghost use Rattle.state.specs.View.{as-machine, as-delivery};
+ghost use Rattle.model.specs.Step.{pointer_words};
+ghost use Rattle.model.specs.Deliver.{step_with};
+ghost use Rattle.words.specs.View.{as_pointer, PointerWithin};
+ghost use Rattle.state.specs.View.{as_machine, as_delivery};
 ghost use Rattle.dispatch.specs.Plain.{plain_step};
-ghost use Rattle.run.specs.Run.{run_by, Ran-as, Traced, Counted};
-ghost use Rattle.delivered.specs.Parts.{At-a-stop, Steps-as, Part-as};
+ghost use Rattle.run.specs.Run.{run_by, RanAs, Traced, Counted};
+ghost use Rattle.delivered.specs.Parts.{AtAStop, StepsAs, PartAs};
 
 use answers::Answered;
 use run::Ran;
@@ -49,8 +49,8 @@ fn steps(
     budget: u32,
     trace: &mut [u64],
 ) -> Answered
-    requires { (start-questions no-delivery (as-machine core prs.old memory.old) ≡ 0) × (count ≤ budget) }
-    ensures { Steps-as budget count (as-machine core prs.old memory.old) trace.old result (as-machine result.core prs.new memory.new) trace.new }
+    requires { (start_questions no_delivery (as_machine core prs.old memory.old) ≡ 0) × (count ≤ budget) }
+    ensures { StepsAs budget count (as_machine core prs.old memory.old) trace.old result (as_machine result.core prs.new memory.new) trace.new }
 {
     let start = place_in(trace.len(), count);
     plain::run(core, prs, memory, budget - count, &mut trace[start..])
@@ -58,8 +58,8 @@ fn steps(
 
 // The pointer words of the step at which plain steps stopped: once more, as a single step, it stops there again.
 fn words_of(core: Core, prs: &mut [u16; 24], memory: &mut [u64]) -> u64
-    requires { (start-questions no-delivery (as-machine core prs.old memory.old) ≡ 0) × At-a-stop (as-machine core prs.old memory.old) }
-    ensures { (result ≡ pointer-words (as-machine core prs.old memory.old)) × (result ≤ 64) × (as-machine core prs.new memory.new ≡ as-machine core prs.old memory.old) }
+    requires { (start_questions no_delivery (as_machine core prs.old memory.old) ≡ 0) × AtAStop (as_machine core prs.old memory.old) }
+    ensures { (result ≡ pointer_words (as_machine core prs.old memory.old)) × (result ≤ 64) × (as_machine core prs.new memory.new ≡ as_machine core prs.old memory.old) }
 {
     plain::step(core, prs, memory).pointers
 }
@@ -77,8 +77,8 @@ fn stop(
     budget: u32,
     trace: &mut [u64],
 ) -> PartEnd
-    requires { (start-questions (as-delivery delivery) (as-machine core prs.old memory.old) ≡ 0) × (plain_step (as-machine core prs.old memory.old) ≡ faults number (as_pointer t)) × Pointer-within t × (count < budget) × (read ≤ 64 * count) }
-    ensures { Part-as (as-delivery delivery) budget count read (as-machine core prs.old memory.old) trace.old result (as-machine result.core prs.new memory.new) trace.new }
+    requires { (start_questions (as_delivery delivery) (as_machine core prs.old memory.old) ≡ 0) × (plain_step (as_machine core prs.old memory.old) ≡ faults number (as_pointer t)) × PointerWithin t × (count < budget) × (read ≤ 64 * count) }
+    ensures { PartAs (as_delivery delivery) budget count read (as_machine core prs.old memory.old) trace.old result (as_machine result.core prs.new memory.new) trace.new }
 {
     let last = words_of(core, prs, memory);
     let y = settle::settle(delivery, core, prs, memory, number, t);
@@ -128,8 +128,8 @@ fn part(
     budget: u32,
     trace: &mut [u64],
 ) -> PartEnd
-    requires { (start-questions (as-delivery delivery) (as-machine core prs.old memory.old) ≡ 0) × (count ≤ budget) }
-    ensures { Part-as (as-delivery delivery) budget count 0 (as-machine core prs.old memory.old) trace.old result (as-machine result.core prs.new memory.new) trace.new }
+    requires { (start_questions (as_delivery delivery) (as_machine core prs.old memory.old) ≡ 0) × (count ≤ budget) }
+    ensures { PartAs (as_delivery delivery) budget count 0 (as_machine core prs.old memory.old) trace.old result (as_machine result.core prs.new memory.new) trace.new }
 {
     let x = steps(core, prs, memory, count, budget, trace);
     let after = x.core;
@@ -182,8 +182,8 @@ pub fn run(
     budget: u32,
     trace: &mut [u64],
 ) -> Ran
-    requires { start-questions (as-delivery delivery) (as-machine core prs.old memory.old) ≡ 0 }
-    ensures { Ran-as (as-delivery delivery) (run_by (step-with (as-delivery delivery)) budget 0 (as-machine core prs.old memory.old)) result (as-machine result.core prs.new memory.new) × Traced (step-with (as-delivery delivery)) budget (as-machine core prs.old memory.old) result trace.old trace.new × Counted (step-with (as-delivery delivery)) budget (as-machine core prs.old memory.old) result }
+    requires { start_questions (as_delivery delivery) (as_machine core prs.old memory.old) ≡ 0 }
+    ensures { RanAs (as_delivery delivery) (run_by (step_with (as_delivery delivery)) budget 0 (as_machine core prs.old memory.old)) result (as_machine result.core prs.new memory.new) × Traced (step_with (as_delivery delivery)) budget (as_machine core prs.old memory.old) result trace.old trace.new × Counted (step_with (as_delivery delivery)) budget (as_machine core prs.old memory.old) result }
 {
     let mut x = PartEnd {
         core,

@@ -2,7 +2,7 @@
 use Rattle.std.specs.Prelude.{◌≡◌, ◌||◌, not, cond, ℕ, eqb, length}
 use Rattle.std.proofs.Math.Option.{Option, none, some}
 use Rattle.model.specs.Words as Words
-use Rattle.model.specs.Words.{instruction-in}
+use Rattle.model.specs.Words.{instruction_in}
 use Rattle.model.specs.Registers as Registers
 use Rattle.model.specs.Opcodes.{Opcode, decoded}
 use Rattle.model.specs.Program.{Program, fail}
@@ -19,11 +19,11 @@ dispatched n r i none t = fail 32 r.ipr
 dispatched n r i (some o) t = cond (not o.privileged || eqb r.ipr.ring 0) (plainly n o.access i r t) (fail 33 r.ipr)
 
 -- of an instruction word
-abbrev pub dispatched-in : Registers.Machine → (word : ℕ) → Words.Pointer → Program
-dispatched-in m w t = dispatched (length m.memory) m.registers (instruction-in w) (decoded (instruction-in w).opcode) t
+abbrev pub dispatched_in : Registers.Machine → (word : ℕ) → Words.Pointer → Program
+dispatched_in m w t = dispatched (length m.memory) m.registers (instruction_in w) (decoded (instruction_in w).opcode) t
 
 -- HLT's answer
 pub record Halts (c : Core) (code : Descriptor) (x : After) : Type 0 where
   pub halted : x.end ≡ Halted
   pub code_same : x.code ≡ code
-  pub core-same : Becomes c Registers.advanced x.core
+  pub core_same : Becomes c Registers.advanced x.core

@@ -1,10 +1,10 @@
 // What an instruction does at TPR: one jump by the opcode, with an arm for each entry of the table. It is called at one place,
 // so that the compiler merges it into the loop of a run.
 ghost use Rattle.std.specs.Prelude.{◌≡◌, true};
-ghost use Rattle.model.specs.Questions.{all, pointer-in-range};
-ghost use Rattle.words.specs.View.{as_pointer, Pointer-within};
-ghost use Rattle.state.specs.View.{as-pointers, as-machine, Ready, Does};
-ghost use Rattle.dispatch.specs.Dispatch.{dispatched-in, Halts};
+ghost use Rattle.model.specs.Questions.{all, pointer_in_range};
+ghost use Rattle.words.specs.View.{as_pointer, PointerWithin};
+ghost use Rattle.state.specs.View.{as_pointers, as_machine, Ready, Does};
+ghost use Rattle.dispatch.specs.Dispatch.{dispatched_in, Halts};
 
 use state::{After, Core, End};
 use words::descriptor::Descriptor;
@@ -30,8 +30,8 @@ pub fn perform(
     w: u64,
     t: Pointer,
 ) -> After
-    requires { Ready core memory.old × (all pointer-in-range (as-pointers prs.old) ≡ true) × Pointer-within t }
-    ensures { Does core code (as-pointers prs.old) memory.old (dispatched-in (as-machine core prs.old memory.old) w (as_pointer t)) result (as-pointers prs.new) memory.new }
+    requires { Ready core memory.old × (all pointer_in_range (as_pointers prs.old) ≡ true) × PointerWithin t }
+    ensures { Does core code (as_pointers prs.old) memory.old (dispatched_in (as_machine core prs.old memory.old) w (as_pointer t)) result (as_pointers prs.new) memory.new }
 {
     let ipr = core.ipr;
     let a = core.a;

@@ -8,112 +8,112 @@ use lib.ListN.{length, take, replicate, length-replicate}
 use lib.Seq.{length-take-le}
 use borrow.Author.Tests.{le-leb, lt-leb}
 use Rattle.model.specs.Registers.{Delivery, Machine}
-use Rattle.model.specs.Questions.{start-questions}
+use Rattle.model.specs.Questions.{start_questions}
 use Rattle.model.specs.Image as Image
 use Rattle.model.specs.Image.{image, loaded, checked}
 use Rattle.model.specs.Listing.{listing}
-use Rattle.formats.proofs.ImageLaws.{checked_refused, checked-passed}
+use Rattle.formats.proofs.ImageLaws.{checked_refused, checked_passed}
 use Rattle.model.specs.Bench as Bench
-use Rattle.model.specs.Bench.{call-refused, call-wrote, bench-on, bench}
-use Rattle.state.specs.View.{as-machine}
+use Rattle.model.specs.Bench.{call_refused, call_wrote, bench_on, bench}
+use Rattle.state.specs.View.{as_machine}
 use Rattle.host.specs.declared.record.Registers as Host
-use Rattle.host.specs.Record.{registers-of, machine-of, delivery-of}
+use Rattle.host.specs.Record.{registers_of, machine_of, delivery_of}
 use Rattle.machine.specs.declared.Prepared.{Prepared}
-use Rattle.machine.specs.Answered.{Prepared-as}
-use Rattle.machine.proofs.AskLaws.{prepared-passes}
-use Rattle.listing.specs.Lines.{Whole-listing}
+use Rattle.machine.specs.Answered.{PreparedAs}
+use Rattle.machine.proofs.AskLaws.{prepared_passes}
+use Rattle.listing.specs.Lines.{WholeListing}
 use Rattle.loading.specs.declared.Loading.{Loading}
 use Rattle.image.specs.declared.load.Loaded.{Loaded}
 use Rattle.image.specs.declared.load.LoadOutcome.TheVariants.{Refused, More, Ready}
-use Rattle.loading.specs.View.{rules-of, as-loading, Starts}
-use Rattle.loading.specs.Record.{outcome-image}
-use Rattle.image.specs.Load.{as-outcome, Loaded-as}
-use Rattle.image.proofs.LoadLaws.{image-loaded, may_load, words-within, loaded-delivery, loaded-full}
+use Rattle.loading.specs.View.{rules_of, as_loading, Starts}
+use Rattle.loading.specs.Record.{outcome_image}
+use Rattle.image.specs.Load.{as_outcome, LoadedAs}
+use Rattle.image.proofs.LoadLaws.{image_loaded, may_load, words_within, loaded_delivery, loaded_full}
 use Rattle.calls.specs.declared.Called.{Called}
-use Rattle.calls.specs.Call.{Called-as}
+use Rattle.calls.specs.Call.{CalledAs}
 use Rattle.calls.proofs.CallLaws.{refuses, wrote}
 
 -- 1 TO 4
 module _ (dv : Delivery) (b : ℕ) (t : List ℕ) (m : Machine) where
-  on-refused : (n : ℕ) → n ≡ start-questions dv m → (n ≡ 0 → ⊥) → bench-on (checked dv m b) t ≡ call-refused n t
-  unfolding bench-on
-  on-refused n e h = ap (λ i. bench-on i t) (checked_refused dv m b n e h)
+  on_refused : (n : ℕ) → n ≡ start_questions dv m → (n ≡ 0 → ⊥) → bench_on (checked dv m b) t ≡ call_refused n t
+  unfolding bench_on
+  on_refused n e h = ap (λ i. bench_on i t) (checked_refused dv m b n e h)
 
-  on-passed : (n : ℕ) → n ≡ start-questions dv m → n ≡ 0 → bench-on (checked dv m b) t ≡ bench-on (loaded dv m b) t
-  on-passed n e z = ap (λ i. bench-on i t) (checked-passed dv m b n e z)
+  on_passed : (n : ℕ) → n ≡ start_questions dv m → n ≡ 0 → bench_on (checked dv m b) t ≡ bench_on (loaded dv m b) t
+  on_passed n e z = ap (λ i. bench_on i t) (checked_passed dv m b n e z)
 
-  on-45 : length t < 64 * (b + 1) → bench-on (loaded dv m b) t ≡ call-refused 45 t
-  unfolding bench-on
-  on-45 h = rw (lt-leb (64 * (b + 1)) (length t) h) refl
+  on_45 : length t < 64 * (b + 1) → bench_on (loaded dv m b) t ≡ call_refused 45 t
+  unfolding bench_on
+  on_45 h = rw (lt-leb (64 * (b + 1)) (length t) h) refl
 
-  on-listed : 64 * (b + 1) ≤ length t → bench-on (loaded dv m b) t ≡ call-wrote (listing dv b m) t
-  unfolding bench-on
-  on-listed h = rw (le-leb (64 * (b + 1)) (length t) h) refl
+  on_listed : 64 * (b + 1) ≤ length t → bench_on (loaded dv m b) t ≡ call_wrote (listing dv b m) t
+  unfolding bench_on
+  on_listed h = rw (le-leb (64 * (b + 1)) (length t) h) refl
 
-module _ (b : ℕ) (t : List ℕ) (g : Host.Registers) (v : List ℕ) (x : Prepared) (v-now : List ℕ) (p : Prepared-as g v x v-now) where
-  pub not-prepared : (x.number ≡ 0 → ⊥) → Called-as (bench-on (checked (delivery-of g) (machine-of g v) b) t) (record { number = x.number; length = 0 }) t
-  not-prepared h = refuses _ x.number t (on-refused (delivery-of g) b t (machine-of g v) x.number p.asked h) h
+module _ (b : ℕ) (t : List ℕ) (g : Host.Registers) (v : List ℕ) (x : Prepared) (v_now : List ℕ) (p : PreparedAs g v x v_now) where
+  pub not_prepared : (x.number ≡ 0 → ⊥) → CalledAs (bench_on (checked (delivery_of g) (machine_of g v) b) t) (record { number = x.number; length = 0 }) t
+  not_prepared h = refuses _ x.number t (on_refused (delivery_of g) b t (machine_of g v) x.number p.asked h) h
 
   module _ (z : x.number ≡ 0) where
-    pub no_room : length t < 64 * (b + 1) → Called-as (bench-on (checked (delivery-of g) (machine-of g v) b) t) (record { number = 45; length = 0 }) t
-    no_room h = refuses _ 45 t (on-passed (delivery-of g) b t (machine-of g v) x.number p.asked z ∙ on-45 (delivery-of g) b t (machine-of g v) h) (λ e. omega arith)
+    pub no_room : length t < 64 * (b + 1) → CalledAs (bench_on (checked (delivery_of g) (machine_of g v) b) t) (record { number = 45; length = 0 }) t
+    no_room h = refuses _ 45 t (on_passed (delivery_of g) b t (machine_of g v) x.number p.asked z ∙ on_45 (delivery_of g) b t (machine_of g v) h) (λ e. omega arith)
 
-    pub lists : (r : ℕ) (u : List ℕ) → Whole-listing (delivery-of g) b (as-machine x.core x.prs v-now) t r u → 64 * (b + 1) ≤ length t → b < 4294967296 →
-        Called-as (bench-on (checked (delivery-of g) (machine-of g v) b) t) (record { number = 0; length = r }) u
-    lists r u w h s = wrote _ r (listing (delivery-of g) b (as-machine x.core x.prs v-now)) t u listed w.size (omega (arith, w.short)) w.text_same
+    pub lists : (r : ℕ) (u : List ℕ) → WholeListing (delivery_of g) b (as_machine x.core x.prs v_now) t r u → 64 * (b + 1) ≤ length t → b < 4294967296 →
+        CalledAs (bench_on (checked (delivery_of g) (machine_of g v) b) t) (record { number = 0; length = r }) u
+    lists r u w h s = wrote _ r (listing (delivery_of g) b (as_machine x.core x.prs v_now)) t u listed w.size (omega (arith, w.short)) w.text_same
       where
-        listed : bench-on (checked (delivery-of g) (machine-of g v) b) t ≡ call-wrote (listing (delivery-of g) b (as-machine x.core x.prs v-now)) t
+        listed : bench_on (checked (delivery_of g) (machine_of g v) b) t ≡ call_wrote (listing (delivery_of g) b (as_machine x.core x.prs v_now)) t
         listed =
-            on-passed (delivery-of g) b t (machine-of g v) x.number p.asked z ∙ on-listed (delivery-of g) b t (machine-of g v) h
-            ∙ ap (λ (k : Machine). call-wrote (listing (delivery-of g) b k) t) (sym (p.same z))
+            on_passed (delivery_of g) b t (machine_of g v) x.number p.asked z ∙ on_listed (delivery_of g) b t (machine_of g v) h
+            ∙ ap (λ (k : Machine). call_wrote (listing (delivery_of g) b k) t) (sym (p.same z))
 
-pub ruleset answers = (not-prepared, no_room, lists, prepared-passes)
+pub ruleset answers = (not_prepared, no_room, lists, prepared_passes)
 
 -- A WHOLE IMAGE, loaded
 -- once RN has come, ME and ST have
-module _ (l : Loading) (v bs : List ℕ) (x : Loaded) (k : List ℕ) (z : v ≡ replicate 8320 0) (w : Loaded-as l v bs true x k) (b : ℕ) (o : x.outcome ≡ Ready b) where
+module _ (l : Loading) (v bs : List ℕ) (x : Loaded) (k : List ℕ) (z : v ≡ replicate 8320 0) (w : LoadedAs l v bs true x k) (b : ℕ) (o : x.outcome ≡ Ready b) where
   full : length k ≡ 8320
   full = w.size_same ∙ ap length z ∙ length-replicate {A = ℕ} 8320 0
 
-  ready-memory : x.loading.has_memory ≡ true
-  ready-memory = (rw o at w).outcome-within.1
+  ready_memory : x.loading.has_memory ≡ true
+  ready_memory = (rw o at w).outcome_within.1
 
-  ready-registers : x.loading.has_registers ≡ true
-  ready-registers = (rw o at w).outcome-within.2
+  ready_registers : x.loading.has_registers ≡ true
+  ready_registers = (rw o at w).outcome_within.2
 
   pub ready_words : x.loading.words ≤ length k
-  ready_words = words-within x.loading k w.within full ready-memory
+  ready_words = words_within x.loading k w.within full ready_memory
 
-  pub ready-part : x.loading.words ≡ length (take x.loading.words k)
-  ready-part = sym (length-take-le x.loading.words k ready_words)
+  pub ready_part : x.loading.words ≡ length (take x.loading.words k)
+  ready_part = sym (length-take-le x.loading.words k ready_words)
 
-  ready-machine : Image.machine-of (as-loading x.loading k) ≡ record { registers = registers-of x.loading.registers; memory = take x.loading.words k }
-  ready-machine = loaded-full x.loading k full ready-memory ready-registers
+  ready_machine : Image.machine_of (as_loading x.loading k) ≡ record { registers = registers_of x.loading.registers; memory = take x.loading.words k }
+  ready_machine = loaded_full x.loading k full ready_memory ready_registers
 
-module _ (l : Loading) (v bs t : List ℕ) (x : Loaded) (k : List ℕ) (s : Starts false l) (z : v ≡ replicate 8320 0) (w : Loaded-as l v bs true x k) where
-  starts-empty : as-loading l v ≡ Image.nothing-loaded Image.today
-  unfolding Starts rules-of
-  starts-empty = (s v z).1
+module _ (l : Loading) (v bs t : List ℕ) (x : Loaded) (k : List ℕ) (s : Starts false l) (z : v ≡ replicate 8320 0) (w : LoadedAs l v bs true x k) where
+  starts_empty : as_loading l v ≡ Image.nothing_loaded Image.today
+  unfolding Starts rules_of
+  starts_empty = (s v z).1
 
-  whole : image bs ≡ outcome-image (as-outcome x.outcome) (as-loading x.loading k) bs []
-  whole = image-loaded (as-loading l v) bs (as-outcome x.outcome) (as-loading x.loading k) starts-empty w.goes
+  whole : image bs ≡ outcome_image (as_outcome x.outcome) (as_loading x.loading k) bs []
+  whole = image_loaded (as_loading l v) bs (as_outcome x.outcome) (as_loading x.loading k) starts_empty w.goes
 
-  pub image-refused : (n : ℕ) → x.outcome ≡ Refused n → Called-as (bench bs t) (record { number = n; length = 0 }) t
-  unfolding bench outcome-image bench-on
-  image-refused n o =
-      refuses _ n t (ap (λ i. bench-on i t) (whole ∙ ap (λ o. outcome-image (as-outcome o) (as-loading x.loading k) bs []) o))
-      (λ e. let h = (rw o at w).outcome-within in omega arith)
+  pub image_refused : (n : ℕ) → x.outcome ≡ Refused n → CalledAs (bench bs t) (record { number = n; length = 0 }) t
+  unfolding bench outcome_image bench_on
+  image_refused n o =
+      refuses _ n t (ap (λ i. bench_on i t) (whole ∙ ap (λ o. outcome_image (as_outcome o) (as_loading x.loading k) bs []) o))
+      (λ e. let h = (rw o at w).outcome_within in omega arith)
 
   -- a whole image leaves no bytes over
-  pub no_more : (n : ℕ) → x.outcome ≡ More n → Called-as (bench bs t) (record { number = 41; length = 0 }) t
-  no_more n o = absurd (false≢true (sym (rw o at w).outcome-within.0))
+  pub no_more : (n : ℕ) → x.outcome ≡ More n → CalledAs (bench bs t) (record { number = 41; length = 0 }) t
+  no_more n o = absurd (false≢true (sym (rw o at w).outcome_within.0))
 
-  pub image-listed : (b : ℕ) → x.outcome ≡ Ready b → (y : Called) (u : List ℕ) →
-      Called-as (bench-on (checked (delivery-of x.loading.registers) (record { registers = registers-of x.loading.registers; memory = take x.loading.words k }) b) t) y u →
-      Called-as (bench bs t) y u
-  unfolding bench outcome-image
-  image-listed b o y u =
-      subst (λ (i : Image.Image). Called-as (bench-on i t) y u)
-      (sym (whole ∙ ap (λ o. outcome-image (as-outcome o) (as-loading x.loading k) bs []) o ∙ ap₂ (λ d m. checked d m b) (loaded-delivery x.loading k) (ready-machine l v bs x k z w b o)))
+  pub image_listed : (b : ℕ) → x.outcome ≡ Ready b → (y : Called) (u : List ℕ) →
+      CalledAs (bench_on (checked (delivery_of x.loading.registers) (record { registers = registers_of x.loading.registers; memory = take x.loading.words k }) b) t) y u →
+      CalledAs (bench bs t) y u
+  unfolding bench outcome_image
+  image_listed b o y u =
+      subst (λ (i : Image.Image). CalledAs (bench_on i t) y u)
+      (sym (whole ∙ ap (λ o. outcome_image (as_outcome o) (as_loading x.loading k) bs []) o ∙ ap₂ (λ d m. checked d m b) (loaded_delivery x.loading k) (ready_machine l v bs x k z w b o)))
 
-pub ruleset whole-image = (may_load, ready_words, ready-part, image-refused, no_more, image-listed)
+pub ruleset whole_image = (may_load, ready_words, ready_part, image_refused, no_more, image_listed)

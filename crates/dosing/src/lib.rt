@@ -1,8 +1,8 @@
 // The bench's call: an image loaded and run whole, for its listing.
 ghost use Rattle.model.specs.Image.{checked};
 ghost use Rattle.model.specs.Bench as Bench;
-ghost use Rattle.host.specs.Record.{machine-of, delivery-of};
-ghost use Rattle.calls.specs.Call.{Called-as};
+ghost use Rattle.host.specs.Record.{machine_of, delivery_of};
+ghost use Rattle.calls.specs.Call.{CalledAs};
 
 use calls::Called;
 use host::record::Registers;
@@ -10,7 +10,7 @@ use image::load::LoadOutcome;
 
 // What an image gave, run whole: 1 to 4, then 45, then the listing.
 pub fn list_loaded(registers: Registers, memory: &mut [u64], budget: u32, text: &mut [u8]) -> Called
-    ensures { Called-as (Bench.bench-on (checked (delivery-of registers) (machine-of registers memory.old) budget) text.old) result text.new }
+    ensures { CalledAs (Bench.bench_on (checked (delivery_of registers) (machine_of registers memory.old) budget) text.old) result text.new }
 {
     let x = machine::prepare(registers, memory);
     if x.number != 0 {
@@ -33,7 +33,7 @@ pub fn list_loaded(registers: Registers, memory: &mut [u64], budget: u32, text: 
 }
 
 pub fn bench(image: &[u8], text: &mut [u8]) -> Called
-    ensures { Called-as (Bench.bench image.now text.old) result text.new }
+    ensures { CalledAs (Bench.bench image.now text.old) result text.new }
 {
     let mut store = loading::empty_store();
     let x = image::load::load(loading::nothing_loaded(false), &mut store, image, true);

@@ -7,60 +7,60 @@ use native.Mathlib.Omega.{arith}
 use lib.ListN.{length, length-map, get_or}
 use Rattle.model.specs.Words as Words
 use Rattle.model.specs.Registers as Registers
-use Rattle.close.specs.Close.{Held, cleared, each-once, Found, look_up, found_in, find}
+use Rattle.close.specs.Close.{Held, cleared, each_once, Found, look_up, found_in, find}
 use Rattle.close.specs.Closed.{Each}
-use Rattle.close.proofs.CountLaws.{Ordered, test-ordered, ordered-test, cleared-ordered, found-ordered}
-use Rattle.lookup.specs.Lookup.{found, touched, replaced-if, without-mark, after-look-up, as-held, as-helds}
+use Rattle.close.proofs.CountLaws.{Ordered, test_ordered, ordered_test, cleared_ordered, found_ordered}
+use Rattle.lookup.specs.Lookup.{found, touched, replaced_if, without_mark, after_look_up, as_held, as_helds}
 use Rattle.lookup.specs.declared.Record.{Record}
 use Rattle.lookup.specs.declared.Search.{Search}
-use Rattle.lookup.proofs.AsHeldLaws.{clears-as, hit-of, start, Searched-as, misses, hits, searched-as, looks-up-as, Low}
-use Rattle.state.specs.View.{registers-with, machine-with}
+use Rattle.lookup.proofs.AsHeldLaws.{clears_as, hit_of, start, SearchedAs, misses, hits, searched_as, looks_up_as, Low}
+use Rattle.state.specs.View.{registers_with, machine_with}
 use Rattle.state.specs.declared.Delivery.{Delivery}
 use Rattle.pending.specs.declared.Pending.{Pending}
-use Rattle.pending.specs.Left.{far-of, rest_of, left-of, remaining, cleared-if, stage, Reaches, Asks, Waits, Under-way, Answers}
+use Rattle.pending.specs.Left.{far_of, rest_of, left_of, remaining, cleared_if, stage, Reaches, Asks, Waits, UnderWay, Answers}
 use Rattle.answering.specs.Answer.{Answered}
-use Rattle.driver.specs.Drive.{answered-records, turned-records, left-to-ask, Stands, Turned}
-use Rattle.pending.proofs.GoesLaws.{stage-within}
+use Rattle.driver.specs.Drive.{answered_records, turned_records, left_to_ask, Stands, Turned}
+use Rattle.pending.proofs.GoesLaws.{stage_within}
 
 -- a search is for its segment
-pub found-segment : (s : ℕ) (rs : List Record) → (found s rs).segment ≡ s
-found-segment s rs = by-search (searched-as s rs)
+pub found_segment : (s : ℕ) (rs : List Record) → (found s rs).segment ≡ s
+found_segment s rs = by_search (searched_as s rs)
   where
-    by-search : Searched-as s rs → (found s rs).segment ≡ s
-    by-search (misses e f) = ap (λ (x : Search). x.segment) f ∙ (unfold start in refl)
-    by-search (hits r e f) = ap (λ (x : Search). x.segment) f ∙ (unfold hit-of in refl)
+    by_search : SearchedAs s rs → (found s rs).segment ≡ s
+    by_search (misses e f) = ap (λ (x : Search). x.segment) f ∙ (unfold start in refl)
+    by_search (hits r e f) = ap (λ (x : Search). x.segment) f ∙ (unfold hit_of in refl)
 
 -- counts below sixteen
-low_of : (rs : List Record) → Each (λ h. h.count < 16) (as-helds rs) → Low rs
+low_of : (rs : List Record) → Each (λ h. h.count < 16) (as_helds rs) → Low rs
 unfolding Each Low
 low_of [] h = tt
 low_of (r ∷ rs) h = let l = h.0 in (omega arith, low_of rs h.1)
 
 -- a hit replaces nothing, whatever the word; a miss has memory's
-after-by : (s w k : ℕ) (rs : List Record) → w ≡ cond (found s rs).hit (found s rs).word k → after-look-up s w rs ≡ after-look-up s k rs
-unfolding after-look-up replaced-if
-after-by s w k rs e = by-hit (found s rs).hit refl
+after_by : (s w k : ℕ) (rs : List Record) → w ≡ cond (found s rs).hit (found s rs).word k → after_look_up s w rs ≡ after_look_up s k rs
+unfolding after_look_up replaced_if
+after_by s w k rs e = by_hit (found s rs).hit refl
   where
-    by-hit : (b : Bool) → (found s rs).hit ≡ b → after-look-up s w rs ≡ after-look-up s k rs
-    by-hit true h = rw h
-    by-hit false h = ap (λ z. after-look-up s z rs) (e ∙ ap (λ b. cond b (found s rs).word k) h)
+    by_hit : (b : Bool) → (found s rs).hit ≡ b → after_look_up s w rs ≡ after_look_up s k rs
+    by_hit true h = rw h
+    by_hit false h = ap (λ z. after_look_up s z rs) (e ∙ ap (λ b. cond b (found s rs).word k) h)
 
-module _ (v : Delivery) (b : ℕ) (x : Pending) (rs : List Record) (ps : List Words.Pointer) (m : List ℕ) (y : Pending) (ps-now : List Words.Pointer) (m-now : List ℕ)
-    (st : Stands v b x rs ps m) (asks : x.asks ≡ true) (an : Answered v b x (found x.segment rs) ps m y ps-now m-now) where
+module _ (v : Delivery) (b : ℕ) (x : Pending) (rs : List Record) (ps : List Words.Pointer) (m : List ℕ) (y : Pending) (ps_now : List Words.Pointer) (m_now : List ℕ)
+    (st : Stands v b x rs ps m) (asks : x.asks ≡ true) (an : Answered v b x (found x.segment rs) ps m y ps_now m_now) where
   abbrev M : Registers.Machine
-  M = machine-with x.core ps m
+  M = machine_with x.core ps m
 
   abbrev hs : List Held
-  hs = as-helds rs
+  hs = as_helds rs
 
-  asked : Asks v b x (registers-with x.core ps) (length m)
+  asked : Asks v b x (registers_with x.core ps) (length m)
   asked = st.waits.asking asks
 
-  under : Under-way v b (far-of x) M
+  under : UnderWay v b (far_of x) M
   under =
-      record { passes = st.waits.passes; count-within = asked.count-within; total-within = st.waits.total-within; read-within = st.waits.read-within }
+      record { passes = st.waits.passes; count_within = asked.count_within; total_within = st.waits.total_within; read_within = st.waits.read_within }
 
-  answers : Answers v b (far-of x) M (left-of (length m) (registers-with x.core ps) x.place) x.segment y.word (suc (stage x.place)) y ps-now m-now
+  answers : Answers v b (far_of x) M (left_of (length m) (registers_with x.core ps) x.place) x.segment y.word (suc (stage x.place)) y ps_now m_now
   answers = an.answers.answers under x.segment asked.inside asked.at
 
   -- the look_up, and the word that it finds
@@ -68,76 +68,76 @@ module _ (v : Delivery) (b : ℕ) (x : Pending) (rs : List Record) (ps : List Wo
   there = get_or m (x.core.dbr.address + x.segment) 0
 
   word_same : y.word ≡ cond (found x.segment rs).hit (found x.segment rs).word there
-  word_same = an.word-found ∙ ap (λ z. cond (found x.segment rs).hit (found x.segment rs).word (get_or m (x.core.dbr.address + z) 0)) (found-segment x.segment rs)
+  word_same = an.word_found ∙ ap (λ z. cond (found x.segment rs).hit (found x.segment rs).word (get_or m (x.core.dbr.address + z) 0)) (found_segment x.segment rs)
 
   ordered : Ordered hs
-  ordered = test-ordered hs (length-map rs as-held ∙ st.sixteen) st.once
+  ordered = test_ordered hs (length-map rs as_held ∙ st.sixteen) st.once
 
-  looked : look_up hs M x.segment ≡ record { word = y.word; records = as-helds (answered-records x.segment rs y) }
+  looked : look_up hs M x.segment ≡ record { word = y.word; records = as_helds (answered_records x.segment rs y) }
   unfolding look_up
   looked =
       let l : Low rs = low_of rs ordered.below in
-      looks-up-as x.segment there rs l
-      ∙ ap (λ (z : ℕ). record { word = z; records = as-helds (after-look-up x.segment there rs) }) (sym word_same)
-      ∙ ap (λ (z : List Record). record { word = y.word; records = as-helds z }) (sym (after-by x.segment y.word there rs word_same))
-      ∙ (unfold after-look-up in refl)
+      looks_up_as x.segment there rs l
+      ∙ ap (λ (z : ℕ). record { word = z; records = as_helds (after_look_up x.segment there rs) }) (sym word_same)
+      ∙ ap (λ (z : List Record). record { word = y.word; records = as_helds z }) (sym (after_by x.segment y.word there rs word_same))
+      ∙ (unfold after_look_up in refl)
 
-  records-now : as-helds (turned-records x.segment rs y) ≡ cleared-if y.clears (as-helds (answered-records x.segment rs y))
-  unfolding cleared-if
-  records-now = by-clears y.clears
+  records_now : as_helds (turned_records x.segment rs y) ≡ cleared_if y.clears (as_helds (answered_records x.segment rs y))
+  unfolding cleared_if
+  records_now = by_clears y.clears
     where
-      by-clears : (k : Bool) → as-helds (cond k (map without-mark (answered-records x.segment rs y)) (answered-records x.segment rs y)) ≡ cleared-if k (as-helds (answered-records x.segment rs y))
-      by-clears true = clears-as (answered-records x.segment rs y)
-      by-clears false = refl
+      by_clears : (k : Bool) → as_helds (cond k (map without_mark (answered_records x.segment rs y)) (answered_records x.segment rs y)) ≡ cleared_if k (as_helds (answered_records x.segment rs y))
+      by_clears true = clears_as (answered_records x.segment rs y)
+      by_clears false = refl
 
-  ordered-then : Ordered (as-helds (answered-records x.segment rs y))
-  ordered-then = subst (λ (z : Found). Ordered z.records) looked (found-ordered M x.segment hs ordered)
+  ordered_then : Ordered (as_helds (answered_records x.segment rs y))
+  ordered_then = subst (λ (z : Found). Ordered z.records) looked (found_ordered M x.segment hs ordered)
 
-  ordered-now : Ordered (as-helds (turned-records x.segment rs y))
-  unfolding cleared-if
-  ordered-now = subst Ordered (sym records-now) (by-clears y.clears)
+  ordered_now : Ordered (as_helds (turned_records x.segment rs y))
+  unfolding cleared_if
+  ordered_now = subst Ordered (sym records_now) (by_clears y.clears)
     where
-      by-clears : (k : Bool) → Ordered (cleared-if k (as-helds (answered-records x.segment rs y)))
-      by-clears true = cleared-ordered _ ordered-then
-      by-clears false = ordered-then
+      by_clears : (k : Bool) → Ordered (cleared_if k (as_helds (answered_records x.segment rs y)))
+      by_clears true = cleared_ordered _ ordered_then
+      by_clears false = ordered_then
 
-  left_here : remaining v b x hs ps m ≡ rest_of v b (far-of x) hs M (left-of (length m) (registers-with x.core ps) x.place)
+  left_here : remaining v b x hs ps m ≡ rest_of v b (far_of x) hs M (left_of (length m) (registers_with x.core ps) x.place)
   unfolding remaining
   left_here = rw asks
 
-  same_left : remaining v b x hs ps m ≡ remaining v b y (as-helds (turned-records x.segment rs y)) ps-now m-now
+  same_left : remaining v b x hs ps m ≡ remaining v b y (as_helds (turned_records x.segment rs y)) ps_now m_now
   same_left =
       left_here
-      ∙ answers.same hs (record { word = y.word; records = as-helds (answered-records x.segment rs y) }) looked refl ordered.sixteen st.once
-      ∙ ap (λ (z : List Held). remaining v b y z ps-now m-now) (sym records-now)
+      ∙ answers.same hs (record { word = y.word; records = as_helds (answered_records x.segment rs y) }) looked refl ordered.sixteen st.once
+      ∙ ap (λ (z : List Held). remaining v b y z ps_now m_now) (sym records_now)
 
   -- it has come further
-  nearer : left-to-ask b y < left-to-ask b x
-  nearer = by-asks y.asks refl
+  nearer : left_to_ask b y < left_to_ask b x
+  nearer = by_asks y.asks refl
     where
-      before : left-to-ask b x ≡ suc (b * 68 - (x.count * 68 + stage x.place))
-      before = (unfold left-to-ask in rw asks)
+      before : left_to_ask b x ≡ suc (b * 68 - (x.count * 68 + stage x.place))
+      before = (unfold left_to_ask in rw asks)
 
-      by-asks : (k : Bool) → y.asks ≡ k → left-to-ask b y < left-to-ask b x
-      by-asks false e =
-          let none : left-to-ask b y ≡ 0 = (unfold left-to-ask in rw e) in omega (arith, none, before)
-      by-asks true e =
-          let now : left-to-ask b y ≡ suc (b * 68 - (y.count * 68 + stage y.place)) = (unfold left-to-ask in rw e) in
+      by_asks : (k : Bool) → y.asks ≡ k → left_to_ask b y < left_to_ask b x
+      by_asks false e =
+          let none : left_to_ask b y ≡ 0 = (unfold left_to_ask in rw e) in omega (arith, none, before)
+      by_asks true e =
+          let now : left_to_ask b y ≡ suc (b * 68 - (y.count * 68 + stage y.place)) = (unfold left_to_ask in rw e) in
           let reach : Reaches x.count (suc (stage x.place)) y = answers.further in
           let further : x.count * 68 + suc (stage x.place) ≤ y.count * 68 + stage y.place = (unfold Reaches in reach e) in
-          let within : y.count < b = (answers.waits.asking e).count-within in
-          let last : stage y.place ≤ 67 = stage-within y.place in
+          let within : y.count < b = (answers.waits.asking e).count_within in
+          let last : stage y.place ≤ 67 = stage_within y.place in
           omega (arith, now, before, further, within, last)
 
-  pub turn : Turned v b x rs ps m y (turned-records x.segment rs y) ps-now m-now
+  pub turn : Turned v b x rs ps m y (turned_records x.segment rs y) ps_now m_now
   turn =
       record {
         same = same_left;
         stands =
             record {
               waits = answers.waits;
-              sixteen = sym (length-map (turned-records x.segment rs y) as-held) ∙ ordered-now.sixteen;
-              once = ordered-test _ ordered-now;
+              sixteen = sym (length-map (turned_records x.segment rs y) as_held) ∙ ordered_now.sixteen;
+              once = ordered_test _ ordered_now;
             };
         nearer = nearer;
       }

@@ -1,5 +1,5 @@
 // A run over lent records (02, L7): each descriptor that it asks for is looked up, and what was found is the answer.
-ghost use Rattle.state.specs.View.{as-pointers};
+ghost use Rattle.state.specs.View.{as_pointers};
 ghost use Rattle.driver.specs.Drive.{Stands, Drives};
 
 use lookup::{Entry, Record};
@@ -15,8 +15,8 @@ pub fn drive(
     budget: u32,
     from: Pending,
 ) -> Pending
-    requires { Stands delivery budget from records.old (as-pointers prs.old) memory.old }
-    ensures { Drives delivery budget from records.old (as-pointers prs.old) memory.old result records.new (as-pointers prs.new) memory.new }
+    requires { Stands delivery budget from records.old (as_pointers prs.old) memory.old }
+    ensures { Drives delivery budget from records.old (as_pointers prs.old) memory.old result records.new (as_pointers prs.new) memory.new }
 {
     let mut x = from;
     while x.asks {

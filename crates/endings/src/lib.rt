@@ -2,8 +2,8 @@
 ghost use Rattle.std.specs.Prelude.{[], ◌∷◌, ◌++◌, ◌≤◌, ◌+◌, length};
 ghost use Rattle.model.specs.Listing.{decimal, last_line};
 ghost use Rattle.model.specs.Run.{fault};
-ghost use Rattle.words.specs.View.{as_pointer, Pointer-within};
-ghost use Rattle.state.specs.Reply.{as-reply, Reply-within};
+ghost use Rattle.words.specs.View.{as_pointer, PointerWithin};
+ghost use Rattle.state.specs.Reply.{as_reply, ReplyWithin};
 ghost use Rattle.text.specs.Text.{Put};
 
 use parts::{put_bytes, put_named, put_number, put_pointer, put_short, put_total};
@@ -21,7 +21,7 @@ fn put_counted(text: &mut [u8], at: usize, name: &[u8], count: u32, total: u64) 
 
 // A fault's number, the count of completed steps, the pointer that faulted, and the total of the steps' pointer words.
 fn put_fault_line(text: &mut [u8], at: usize, n: u8, count: u32, t: Pointer, total: u64) -> usize
-    requires { (at + 64 ≤ length text.old) × Pointer-within t }
+    requires { (at + 64 ≤ length text.old) × PointerWithin t }
     ensures { Put 64 at (last_line (fault n count (as_pointer t)) total) text.old text.new result }
 {
     let at_number = put_bytes(text, at, b"fault ");
@@ -33,8 +33,8 @@ fn put_fault_line(text: &mut [u8], at: usize, n: u8, count: u32, t: Pointer, tot
 
 // The reply of a run and the total of its pointer words, which end its listing; a refused run has none.
 pub fn put_last_line(text: &mut [u8], at: usize, reply: Reply, total: u64) -> usize
-    requires { (at + 64 ≤ length text.old) × Reply-within reply }
-    ensures { Put 64 at (last_line (as-reply reply) total) text.old text.new result }
+    requires { (at + 64 ≤ length text.old) × ReplyWithin reply }
+    ensures { Put 64 at (last_line (as_reply reply) total) text.old text.new result }
 {
     match reply {
         Reply::Refused(n) => put_named(text, at, b"refused ", n as u32, 10),

@@ -46,10 +46,10 @@ module _ {M : Type 1} {𝓤 : Ura M} (𝓛 : Logic 𝓤) (T : RattleType) (n : �
       use1 𝓛 (later (some (λ (γ : GName). ‵ ((MutRef ℓ ν R).own_val (record { ref_ptr = (b, o); ghost_name = γ; now = xs }) (vptr b o ∷ [])) ⊛ ‵ (flent ν (Body (mem R) b o γ))))) (lends_ref 𝓛 R ℓ ν xs b o) $ await ! tt $ pick ! (λ γ. split ! $
       at_once ! $ show ! (λ (γ' : GName). sep 𝓤 (sem 𝓛 ((MutRef ℓ ν R).own_val (record { ref_ptr = (b, o); ghost_name = γ'; now = xs }) (vptr b o ∷ []))) (mean 𝓛 (Rest γ'))) γ $ frame ! $ done !)
 
-  pub comes-part : (γ : GName) (zs : List T.Denot) (w : Val) → ((vs : List Val) → Is R zs vs → vs ≡ w ∷ [])
+  pub comes_part : (γ : GName) (zs : List T.Denot) (w : Val) → ((vs : List Val) → Is R zs vs → vs ≡ w ∷ [])
       → ent 𝓤 (sep 𝓤 (A.dead ν) (sep 𝓤 (mean 𝓛 (Rest γ)) (A.res γ (R.coded.code zs)))) (H.⇛ (sep 𝓤 (mean 𝓛 (back w)) (sem 𝓛 (R.own_val zs (w ∷ [])))))
   unfolding part_of
-  comes-part γ zs w tells =
+  comes_part γ zs w tells =
       qed 𝓛 (‵ (fdead ν) ∷ Rest γ ∷ ‵ (fres γ (R.coded.code zs)) ∷ []) ∵ updating ! $ move ! (1 ∷ []) $ split ! $ move ! (2 ∷ 0 ∷ 3 ∷ []) $
       use3 𝓛 (later (‵ ((mem R).own_at zs b o))) (ref_back 𝓛 R ν γ zs b o) $ await ! tt $ fpick ! (λ vs. fsplit ! $ move ! (1 ∷ []) $ peeks ! R (Is R) (shows 𝓛 R) zs vs (λ is.
       rewrite ! 0 (λ (us : List Val). ‵ (R.own_val zs us)) (tells vs is) refl $ rewrite ! 1 (λ (us : List Val). ‵ (cell_at full_share R.mir us b o)) (tells vs is) refl $ move ! (1 ∷ []) $

@@ -6,34 +6,34 @@ use Prim.Native.Nat.{ℕ}
 use lib.Dec.{eqb}
 use borrow.Author.Tests.{eqb-true}
 use Rattle.model.specs.Registers.{Delivery}
-use Rattle.model.specs.Questions.{delivery-in-range}
+use Rattle.model.specs.Questions.{delivery_in_range}
 use Rattle.model.proofs.BranchLaws.{and_left, and_right}
 use Rattle.state.specs.declared.Core.{Core}
 use Rattle.answers.specs.declared.Answered.{Answered}
-use Rattle.machine.specs.Answered.{Answered-as}
-use Rattle.plain.specs.Plain.{Plain-as}
-use Rattle.machine.proofs.SingleLaws.{plain-answers, stops-at-once, answers-from}
-use Rattle.entry.specs.Call.{Core-says}
-use Rattle.entry.proofs.CallLaws.{core-says}
+use Rattle.machine.specs.Answered.{AnsweredAs}
+use Rattle.plain.specs.Plain.{PlainAs}
+use Rattle.machine.proofs.SingleLaws.{plain_answers, stops_at_once, answers_from}
+use Rattle.entry.specs.Call.{CoreSays}
+use Rattle.entry.proofs.CallLaws.{core_says}
 
-module _ (v : Delivery) (single : Bool) (b : ℕ) (d : Bool) (e : d ≡ delivery-in-range v) (h : (single && eqb b 1) && d ≡ true) (c : Core) (prs memory : List ℕ) (x : Answered) (prs-then memory-then : List ℕ)
-    (w : Plain-as true 1 c prs memory [] x prs-then memory-then []) where
-  as-asked : (y : Answered) (prs-now memory-now : List ℕ) → Core-says v true 1 c prs memory y prs-now memory-now → Core-says v single b c prs memory y prs-now memory-now
-  as-asked y prs-now memory-now s =
+module _ (v : Delivery) (single : Bool) (b : ℕ) (d : Bool) (e : d ≡ delivery_in_range v) (h : (single && eqb b 1) && d ≡ true) (c : Core) (prs memory : List ℕ) (x : Answered) (prs_then memory_then : List ℕ)
+    (w : PlainAs true 1 c prs memory [] x prs_then memory_then []) where
+  as_asked : (y : Answered) (prs_now memory_now : List ℕ) → CoreSays v true 1 c prs memory y prs_now memory_now → CoreSays v single b c prs memory y prs_now memory_now
+  as_asked y prs_now memory_now s =
       let f = and_left (single && eqb b 1) d h in
-      subst (λ z. Core-says v z b c prs memory y prs-now memory-now) (sym (and_left single (eqb b 1) f))
-      (subst (λ z. Core-says v true z c prs memory y prs-now memory-now) (sym (eqb-true b 1 (and_right single (eqb b 1) f))) s)
+      subst (λ z. CoreSays v z b c prs memory y prs_now memory_now) (sym (and_left single (eqb b 1) f))
+      (subst (λ z. CoreSays v true z c prs memory y prs_now memory_now) (sym (eqb-true b 1 (and_right single (eqb b 1) f))) s)
 
-  pub step-is-plain : (x.kind ≡ 3 → ⊥) → Core-says v single b c prs memory x prs-then memory-then
-  step-is-plain g =
-      as-asked x prs-then memory-then
-      (core-says v true 1 c prs memory [] x prs-then memory-then []
-      (plain-answers v (sym e ∙ and_right (single && eqb b 1) d h) true 1 c prs memory [] x prs-then memory-then [] w g))
+  pub step_is_plain : (x.kind ≡ 3 → ⊥) → CoreSays v single b c prs memory x prs_then memory_then
+  step_is_plain g =
+      as_asked x prs_then memory_then
+      (core_says v true 1 c prs memory [] x prs_then memory_then []
+      (plain_answers v (sym e ∙ and_right (single && eqb b 1) d h) true 1 c prs memory [] x prs_then memory_then [] w g))
 
-  pub step-again : x.kind ≡ 3 → (trace : List ℕ) (y : Answered) (prs-now memory-now trace-now : List ℕ) → Answered-as v true 1 x.core prs-then memory-then trace y prs-now memory-now trace-now →
-      Core-says v single b c prs memory y prs-now memory-now
-  step-again g trace y prs-now memory-now trace-now s =
-      as-asked y prs-now memory-now
-      (core-says v true 1 c prs memory trace y prs-now memory-now trace-now
-      (answers-from v true 1 c x.core prs memory prs-then memory-then trace y prs-now memory-now trace-now
-      (stops-at-once true c prs memory [] x prs-then memory-then [] w g) w.core-fits s))
+  pub step_again : x.kind ≡ 3 → (trace : List ℕ) (y : Answered) (prs_now memory_now trace_now : List ℕ) → AnsweredAs v true 1 x.core prs_then memory_then trace y prs_now memory_now trace_now →
+      CoreSays v single b c prs memory y prs_now memory_now
+  step_again g trace y prs_now memory_now trace_now s =
+      as_asked y prs_now memory_now
+      (core_says v true 1 c prs memory trace y prs_now memory_now trace_now
+      (answers_from v true 1 c x.core prs memory prs_then memory_then trace y prs_now memory_now trace_now
+      (stops_at_once true c prs memory [] x prs_then memory_then [] w g) w.core_fits s))

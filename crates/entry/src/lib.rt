@@ -1,6 +1,6 @@
 // A call on a register record and a memory that the host lends: a run, or a single step.
-ghost use Rattle.state.specs.View.{as-delivery};
-ghost use Rattle.entry.specs.Call.{together, Core-says, Call-says};
+ghost use Rattle.state.specs.View.{as_delivery};
+ghost use Rattle.entry.specs.Call.{together, CoreSays, CallSays};
 
 use host::record::{DescriptorBase, Pointer, Registers};
 use state::{Core, Delivery};
@@ -36,7 +36,7 @@ fn run_core(
     budget: u32,
     single: bool,
 ) -> answers::Answered
-    ensures { Core-says (as-delivery delivery) single budget core prs.old memory.old result prs.new memory.new }
+    ensures { CoreSays (as_delivery delivery) single budget core prs.old memory.old result prs.new memory.new }
 {
     let mut none: [u64; 0] = [];
     if single & (budget == 1) & host::start::is_delivery(delivery) {
@@ -86,7 +86,7 @@ fn run_fields(
     budget: u32,
     single: bool,
 ) -> Answered
-    ensures { Call-says single budget (together a dbr ipr delivery prs.old) memory.old result.answer (together result.a result.dbr result.ipr delivery prs.new) memory.new }
+    ensures { CallSays single budget (together a dbr ipr delivery prs.old) memory.old result.answer (together result.a result.dbr result.ipr delivery prs.new) memory.new }
 {
     let base = host::record::to_base(dbr);
     let at = host::record::to_core(ipr);
@@ -112,7 +112,7 @@ fn run_fields(
 
 // A call on the host's own record: its array is lent on in place, the other fields are read before the run and stored after it.
 pub fn call(registers: &mut Registers, memory: &mut [u64], budget: u32, single: bool) -> Answer
-    ensures { Call-says single budget registers.old memory.old result registers.new memory.new }
+    ensures { CallSays single budget registers.old memory.old result registers.new memory.new }
 {
     let a = registers.a;
     let dbr = registers.dbr;

@@ -2,6 +2,6 @@
 use Rattle.std.specs.Prelude.{Bool, true, false}
 use Rattle.model.specs.Image.{Rules, stored, today}
 
-unfoldable pub rules-of : (is-stored : Bool) → Rules
-rules-of true = stored
-rules-of false = today
+unfoldable pub rules_of : (is_stored : Bool) → Rules
+rules_of true = stored
+rules_of false = today

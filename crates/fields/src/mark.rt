@@ -1,8 +1,8 @@
 // A record's mark, two bytes of ASCII, and the bytes of a record with its mark.
 ghost use Rattle.std.specs.Prelude.{◌≡◌, [], ◌∷◌};
-ghost use Rattle.model.specs.Image.{mark_of, start-size};
-ghost use Rattle.fields.specs.Mark.{as-mark, size_of};
-ghost use Rattle.fields.specs.Rules.{rules-of};
+ghost use Rattle.model.specs.Image.{mark_of, start_size};
+ghost use Rattle.fields.specs.Mark.{as_mark, size_of};
+ghost use Rattle.fields.specs.Rules.{rules_of};
 
 // ME, ST, WD and RN; with fewer than two bytes the mark is unknown.
 #[derive(Drop)]
@@ -15,7 +15,7 @@ pub enum Mark {
 }
 
 fn mark_in(first: u8, second: u8) -> Mark
-    ensures { as-mark result ≡ mark_of (first ∷ second ∷ []) }
+    ensures { as_mark result ≡ mark_of (first ∷ second ∷ []) }
 {
     if (first == b'M') & (second == b'E') {
         return Mark::Memory;
@@ -33,7 +33,7 @@ fn mark_in(first: u8, second: u8) -> Mark
 }
 
 pub fn mark_of(bytes: &[u8]) -> Mark
-    ensures { as-mark result ≡ mark_of bytes.now }
+    ensures { as_mark result ≡ mark_of bytes.now }
 {
     if bytes.len() < 2 {
         return Mark::Unknown;
@@ -43,7 +43,7 @@ pub fn mark_of(bytes: &[u8]) -> Mark
 
 // ST ends with the switch and its two segments today, and in stored images with PR7.
 pub fn start_size(is_stored: bool) -> usize
-    ensures { result ≡ start-size (rules-of is_stored) }
+    ensures { result ≡ start_size (rules_of is_stored) }
 {
     if is_stored {
         return 61;
@@ -53,7 +53,7 @@ pub fn start_size(is_stored: bool) -> usize
 
 // An unknown mark is known as such from its two bytes.
 pub fn size_of(mark: Mark, is_stored: bool) -> usize
-    ensures { result ≡ size_of (rules-of is_stored) mark }
+    ensures { result ≡ size_of (rules_of is_stored) mark }
 {
     match mark {
         Mark::Memory => 6,

@@ -1,10 +1,10 @@
 // The registers in an ST record: A, DBR, then IPR and PR0 to PR7 as RING, SEGNO and WORDNO; after them today the switch, the save
 // segment and the handler segment.
 ghost use Rattle.std.specs.Prelude.{◌≡◌, ◌+◌, ◌≤◌, length};
-ghost use Rattle.model.specs.Image.{start-size, pointer-at, pointers-at, registers-at, delivery-at};
-ghost use Rattle.state.specs.View.{as-pointers, as-delivery};
-ghost use Rattle.host.specs.Record.{pointer-of, registers-of, delivery-of};
-ghost use Rattle.fields.specs.Rules.{rules-of};
+ghost use Rattle.model.specs.Image.{start_size, pointer_at, pointers_at, registers_at, delivery_at};
+ghost use Rattle.state.specs.View.{as_pointers, as_delivery};
+ghost use Rattle.host.specs.Record.{pointer_of, registers_of, delivery_of};
+ghost use Rattle.fields.specs.Rules.{rules_of};
 
 use crate::number::{number_1, number_2, number_4, number_8};
 use host::record::{DescriptorBase, Pointer, Registers};
@@ -12,7 +12,7 @@ use state::Delivery;
 
 pub fn pointer_at(bytes: &[u8], at: usize) -> Pointer
     requires { at + 5 ≤ length bytes.now }
-    ensures { pointer-of result ≡ pointer-at at bytes.now }
+    ensures { pointer_of result ≡ pointer_at at bytes.now }
 {
     Pointer {
         ring: number_1(bytes, at),
@@ -23,7 +23,7 @@ pub fn pointer_at(bytes: &[u8], at: usize) -> Pointer
 
 pub fn prs_at(bytes: &[u8]) -> [u16; 24]
     requires { 61 ≤ length bytes.now }
-    ensures { as-pointers result ≡ pointers-at 8 21 bytes.now }
+    ensures { as_pointers result ≡ pointers_at 8 21 bytes.now }
 {
     let mut prs: [u16; 24] = [0; 24];
     let mut k: usize = 0;
@@ -37,8 +37,8 @@ pub fn prs_at(bytes: &[u8]) -> [u16; 24]
 
 // No switch is on for a stored image.
 pub fn delivery_at(bytes: &[u8], is_stored: bool) -> Delivery
-    requires { start-size (rules-of is_stored) ≤ length bytes.now }
-    ensures { as-delivery result ≡ delivery-at (rules-of is_stored) bytes.now }
+    requires { start_size (rules_of is_stored) ≤ length bytes.now }
+    ensures { as_delivery result ≡ delivery_at (rules_of is_stored) bytes.now }
 {
     if is_stored {
         return Delivery {
@@ -55,8 +55,8 @@ pub fn delivery_at(bytes: &[u8], is_stored: bool) -> Delivery
 }
 
 pub fn registers_at(bytes: &[u8], is_stored: bool) -> Registers
-    requires { start-size (rules-of is_stored) ≤ length bytes.now }
-    ensures { (registers-of result ≡ registers-at bytes.now) × (delivery-of result ≡ delivery-at (rules-of is_stored) bytes.now) }
+    requires { start_size (rules_of is_stored) ≤ length bytes.now }
+    ensures { (registers_of result ≡ registers_at bytes.now) × (delivery_of result ≡ delivery_at (rules_of is_stored) bytes.now) }
 {
     Registers {
         a: number_8(bytes, 2),

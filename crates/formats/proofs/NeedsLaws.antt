@@ -9,263 +9,263 @@ use lib.Dec.{leb, eqb, lit≤}
 use lib.ListN.{length, take, drop, length-append, length-set}
 use borrow.Author.Tests.{not-true}
 use Rattle.model.specs.Registers.{Delivery, Machine, machine}
-use Rattle.model.specs.Questions.{start-questions}
-use Rattle.model.specs.Run.{unless-refused}
-use Rattle.model.specs.Image.{today, sizing, Mark, ME, ST, WD, RN, mark_of, start-size, record-size, number_at, delivery-at, Loading, nothing-loaded, has, or_else, memory-of, zero-registers, machine-of, in_order, address-allowed, unless-written, address-new, record-questions, with-written, words-with, with-word, with-record, Image, refused-image, loaded, checked, record-on, whole-record-on, marked-on, bytes_on, image-from, image-after, image}
-use Rattle.model.specs.Convert.{size-by, front-size, records-from, records, joined, left_over, is_word}
-use Rattle.model.specs.Needs.{needs-of, word_count, needs-on, image-needs}
-use Rattle.model.specs.Needed.{Needs-refused, Needs-accepted, Needs-by-length}
-use Rattle.model.proofs.BranchLaws.{cond-rel, cond-holds, and_left, and_right}
-use Rattle.model.proofs.QuestionLaws.{asked-by-size}
-use Rattle.formats.proofs.CutLaws.{All-whole, cut}
-use Rattle.formats.proofs.FrontLaws.{part-refused, ordered, last-has-none, records-have-bytes, passed}
+use Rattle.model.specs.Questions.{start_questions}
+use Rattle.model.specs.Run.{unless_refused}
+use Rattle.model.specs.Image.{today, sizing, Mark, ME, ST, WD, RN, mark_of, start_size, record_size, number_at, delivery_at, Loading, nothing_loaded, has, or_else, memory_of, zero_registers, machine_of, in_order, address_allowed, unless_written, address_new, record_questions, with_written, words_with, with_word, with_record, Image, refused_image, loaded, checked, record_on, whole_record_on, marked_on, bytes_on, image_from, image_after, image}
+use Rattle.model.specs.Convert.{size_by, front_size, records_from, records, joined, left_over, is_word}
+use Rattle.model.specs.Needs.{needs_of, word_count, needs_on, image_needs}
+use Rattle.model.specs.Needed.{NeedsRefused, NeedsAccepted, NeedsByLength}
+use Rattle.model.proofs.BranchLaws.{cond_rel, cond_holds, and_left, and_right}
+use Rattle.model.proofs.QuestionLaws.{asked_by_size}
+use Rattle.formats.proofs.CutLaws.{AllWhole, cut}
+use Rattle.formats.proofs.FrontLaws.{part_refused, ordered, last_has_none, records_have_bytes, passed}
 
 -- A LOADING WITHOUT WORDS, and one by today's rules that differs from it in these alone
 record Alike (l j : Loading) : Type 0 where
-  rules-first : l.rules ≡ sizing
-  rules-second : j.rules ≡ today
+  rules_first : l.rules ≡ sizing
+  rules_second : j.rules ≡ today
   written_same : l.written ≡ j.written
-  registers-same : l.registers ≡ j.registers
-  delivery-same : l.delivery ≡ j.delivery
+  registers_same : l.registers ≡ j.registers
+  delivery_same : l.delivery ≡ j.delivery
   has_same : has l.memory ≡ has j.memory
-  length-same : length (memory-of l) ≡ length (memory-of j)
+  length_same : length (memory_of l) ≡ length (memory_of j)
 
-sizes-same : (k : Mark) → record-size sizing k ≡ record-size today k
-unfolding record-size start-size
-sizes-same ME = refl
-sizes-same ST = refl
-sizes-same WD = refl
-sizes-same RN = refl
+sizes_same : (k : Mark) → record_size sizing k ≡ record_size today k
+unfolding record_size start_size
+sizes_same ME = refl
+sizes_same ST = refl
+sizes_same WD = refl
+sizes_same RN = refl
 
 module _ (l j : Loading) (s : Alike l j) where
-  its-sizes : (k : Mark) → record-size l.rules k ≡ record-size j.rules k
-  its-sizes k = ap (λ v. record-size v k) s.rules-first ∙ sizes-same k ∙ sym (ap (λ v. record-size v k) s.rules-second)
+  its_sizes : (k : Mark) → record_size l.rules k ≡ record_size j.rules k
+  its_sizes k = ap (λ v. record_size v k) s.rules_first ∙ sizes_same k ∙ sym (ap (λ v. record_size v k) s.rules_second)
 
-  questions-same : (k : Mark) (n : ℕ) (x : List ℕ) → record-questions k l n x ≡ record-questions k j n x
-  unfolding record-questions in_order address-allowed address-new unless-written
-  questions-same ME n x = rw s.has_same refl
-  questions-same ST n x = rw (s.has_same, s.registers-same) refl
-  questions-same WD n x = rw (s.has_same, s.length-same, s.rules-first, s.rules-second, s.written_same) refl
-  questions-same RN n x = rw (s.has_same, s.registers-same) refl
+  questions_same : (k : Mark) (n : ℕ) (x : List ℕ) → record_questions k l n x ≡ record_questions k j n x
+  unfolding record_questions in_order address_allowed address_new unless_written
+  questions_same ME n x = rw s.has_same refl
+  questions_same ST n x = rw (s.has_same, s.registers_same) refl
+  questions_same WD n x = rw (s.has_same, s.length_same, s.rules_first, s.rules_second, s.written_same) refl
+  questions_same RN n x = rw (s.has_same, s.registers_same) refl
 
-  with-memory : (x : List ℕ) → Alike (with-record ME l x) (with-record ME j x)
-  unfolding with-record memory-of or_else has
-  with-memory x =
+  with_memory : (x : List ℕ) → Alike (with_record ME l x) (with_record ME j x)
+  unfolding with_record memory_of or_else has
+  with_memory x =
       record {
-        rules-first = s.rules-first;
-        rules-second = s.rules-second;
+        rules_first = s.rules_first;
+        rules_second = s.rules_second;
         written_same = s.written_same;
-        registers-same = s.registers-same;
-        delivery-same = s.delivery-same;
+        registers_same = s.registers_same;
+        delivery_same = s.delivery_same;
         has_same = refl;
-        length-same = refl;
+        length_same = refl;
       }
 
-  with-start : (x : List ℕ) → Alike (with-record ST l x) (with-record ST j x)
-  unfolding with-record memory-of delivery-at
-  with-start x =
+  with_start : (x : List ℕ) → Alike (with_record ST l x) (with_record ST j x)
+  unfolding with_record memory_of delivery_at
+  with_start x =
       record {
-        rules-first = s.rules-first;
-        rules-second = s.rules-second;
+        rules_first = s.rules_first;
+        rules_second = s.rules_second;
         written_same = s.written_same;
-        registers-same = refl;
-        delivery-same = rw (s.rules-first, s.rules-second) refl;
+        registers_same = refl;
+        delivery_same = rw (s.rules_first, s.rules_second) refl;
         has_same = s.has_same;
-        length-same = s.length-same;
+        length_same = s.length_same;
       }
 
-  with-its-word : (x : List ℕ) → Alike (with-record WD l x) (with-record WD j x)
-  unfolding with-record with-word with-written words-with has memory-of or_else
-  with-its-word x =
+  with_its_word : (x : List ℕ) → Alike (with_record WD l x) (with_record WD j x)
+  unfolding with_record with_word with_written words_with has memory_of or_else
+  with_its_word x =
       record {
-        rules-first = s.rules-first;
-        rules-second = s.rules-second;
-        written_same = rw (s.rules-first, s.rules-second, s.written_same) refl;
-        registers-same = s.registers-same;
-        delivery-same = s.delivery-same;
+        rules_first = s.rules_first;
+        rules_second = s.rules_second;
+        written_same = rw (s.rules_first, s.rules_second, s.written_same) refl;
+        registers_same = s.registers_same;
+        delivery_same = s.delivery_same;
         has_same = refl;
-        length-same =
-            rw (s.rules-first, s.rules-second) (s.length-same ∙ sym (length-set (memory-of j) (number_at 2 4 x) (number_at 6 8 x)));
+        length_same =
+            rw (s.rules_first, s.rules_second) (s.length_same ∙ sym (length-set (memory_of j) (number_at 2 4 x) (number_at 6 8 x)));
       }
 
-  asked-same : start-questions l.delivery (machine-of l) ≡ start-questions j.delivery (machine-of j)
-  unfolding machine-of
-  asked-same =
-      ap₂ (λ d r. start-questions d (machine (or_else zero-registers r) (memory-of l))) s.delivery-same s.registers-same
-      ∙ asked-by-size j.delivery (or_else zero-registers j.registers) (memory-of l) (memory-of j) s.length-same
+  asked_same : start_questions l.delivery (machine_of l) ≡ start_questions j.delivery (machine_of j)
+  unfolding machine_of
+  asked_same =
+      ap₂ (λ d r. start_questions d (machine (or_else zero_registers r) (memory_of l))) s.delivery_same s.registers_same
+      ∙ asked_by_size j.delivery (or_else zero_registers j.registers) (memory_of l) (memory_of j) s.length_same
 
 -- SO ARE THE NEEDS read off them
 module _ (w : ℕ) where
-  abbrev Needs-alike : Image → Image → Type 0
-  Needs-alike x y = needs-on x w ≡ needs-on y w
+  abbrev NeedsAlike : Image → Image → Type 0
+  NeedsAlike x y = needs_on x w ≡ needs_on y w
 
-  unless-same : (n p : ℕ) (x y : Image) → n ≡ p → Needs-alike x y → Needs-alike (unless-refused n refused-image x) (unless-refused p refused-image y)
-  unfolding unless-refused
-  unless-same n p x y e h = subst (λ q. Needs-alike (unless-refused n refused-image x) (unless-refused q refused-image y)) e (by_number n)
+  unless_same : (n p : ℕ) (x y : Image) → n ≡ p → NeedsAlike x y → NeedsAlike (unless_refused n refused_image x) (unless_refused p refused_image y)
+  unfolding unless_refused
+  unless_same n p x y e h = subst (λ q. NeedsAlike (unless_refused n refused_image x) (unless_refused q refused_image y)) e (by_number n)
     where
-      by_number : (c : ℕ) → Needs-alike (unless-refused c refused-image x) (unless-refused c refused-image y)
+      by_number : (c : ℕ) → NeedsAlike (unless_refused c refused_image x) (unless_refused c refused_image y)
       by_number zero = h
       by_number (suc c) = refl
 
   module _ (l j : Loading) (s : Alike l j) where
-    checked-same : (b : ℕ) → Needs-alike (checked l.delivery (machine-of l) b) (checked j.delivery (machine-of j) b)
-    unfolding checked needs-on machine-of machine
-    checked-same b = unless-same _ _ _ _ (asked-same l j s) (ap (λ n. needs-of n w b) s.length-same)
+    checked_same : (b : ℕ) → NeedsAlike (checked l.delivery (machine_of l) b) (checked j.delivery (machine_of j) b)
+    unfolding checked needs_on machine_of machine
+    checked_same b = unless_same _ _ _ _ (asked_same l j s) (ap (λ n. needs_of n w b) s.length_same)
 
-    record_same : (k : Mark) (x : List ℕ) (f g : Loading → Image) → ((i o : Loading) → Alike i o → Needs-alike (f i) (g o)) →
-        Needs-alike (record-on k l x f) (record-on k j x g)
-    unfolding record-on
-    record_same ME x f g h = h _ _ (with-memory l j s x)
-    record_same ST x f g h = h _ _ (with-start l j s x)
-    record_same WD x f g h = h _ _ (with-its-word l j s x)
-    record_same RN x f g h = checked-same (number_at 2 4 x)
+    record_same : (k : Mark) (x : List ℕ) (f g : Loading → Image) → ((i o : Loading) → Alike i o → NeedsAlike (f i) (g o)) →
+        NeedsAlike (record_on k l x f) (record_on k j x g)
+    unfolding record_on
+    record_same ME x f g h = h _ _ (with_memory l j s x)
+    record_same ST x f g h = h _ _ (with_start l j s x)
+    record_same WD x f g h = h _ _ (with_its_word l j s x)
+    record_same RN x f g h = checked_same (number_at 2 4 x)
 
-    whole-alike : (k : Mark) (n p : ℕ) (x : List ℕ) (f g : Loading → Image) → n ≡ p → ((i o : Loading) → Alike i o → Needs-alike (f i) (g o)) →
-        Needs-alike (whole-record-on k l n x f) (whole-record-on k j p x g)
-    unfolding whole-record-on
-    whole-alike k n p x f g e h =
-        unless-same _ _ _ _ (questions-same l j s k n x ∙ ap (λ c. record-questions k j c x) e) (record_same k x f g h)
+    whole_alike : (k : Mark) (n p : ℕ) (x : List ℕ) (f g : Loading → Image) → n ≡ p → ((i o : Loading) → Alike i o → NeedsAlike (f i) (g o)) →
+        NeedsAlike (whole_record_on k l n x f) (whole_record_on k j p x g)
+    unfolding whole_record_on
+    whole_alike k n p x f g e h =
+        unless_same _ _ _ _ (questions_same l j s k n x ∙ ap (λ c. record_questions k j c x) e) (record_same k x f g h)
 
-    marked-same : (k : Option Mark) (bs : List ℕ) (f g : Loading → List ℕ → Image) → ((i o : Loading) (rest : List ℕ) → Alike i o → Needs-alike (f i rest) (g o rest)) →
-        Needs-alike (marked-on k l bs f) (marked-on k j bs g)
-    unfolding marked-on
-    marked-same none bs f g h = refl
-    marked-same (some k) bs f g h =
-        rw (its-sizes l j s k)
-        (cond-rel Needs-alike {b = leb (record-size j.rules k) (length bs)} refl (λ _. whole-alike k _ _ bs _ _ refl (λ i o a. h i o _ a)) (λ _. refl))
+    marked_same : (k : Option Mark) (bs : List ℕ) (f g : Loading → List ℕ → Image) → ((i o : Loading) (rest : List ℕ) → Alike i o → NeedsAlike (f i rest) (g o rest)) →
+        NeedsAlike (marked_on k l bs f) (marked_on k j bs g)
+    unfolding marked_on
+    marked_same none bs f g h = refl
+    marked_same (some k) bs f g h =
+        rw (its_sizes l j s k)
+        (cond_rel NeedsAlike {b = leb (record_size j.rules k) (length bs)} refl (λ _. whole_alike k _ _ bs _ _ refl (λ i o a. h i o _ a)) (λ _. refl))
 
-    bytes_same : (bs : List ℕ) (f g : Loading → List ℕ → Image) → ((i o : Loading) (rest : List ℕ) → Alike i o → Needs-alike (f i rest) (g o rest)) →
-        Needs-alike (bytes_on l bs f) (bytes_on j bs g)
+    bytes_same : (bs : List ℕ) (f g : Loading → List ℕ → Image) → ((i o : Loading) (rest : List ℕ) → Alike i o → NeedsAlike (f i rest) (g o rest)) →
+        NeedsAlike (bytes_on l bs f) (bytes_on j bs g)
     unfolding bytes_on
     bytes_same [] f g h = refl
-    bytes_same (b ∷ bs) f g h = marked-same (mark_of (b ∷ bs)) (b ∷ bs) f g h
+    bytes_same (b ∷ bs) f g h = marked_same (mark_of (b ∷ bs)) (b ∷ bs) f g h
 
-  from-same : (n : ℕ) (l j : Loading) (bs : List ℕ) → Alike l j → Needs-alike (image-from n l bs) (image-from n j bs)
-  unfolding image-from
-  from-same zero l j bs s = refl
-  from-same (suc n) l j bs s = bytes_same l j s bs _ _ (λ i o rest a. from-same n i o rest a)
+  from_same : (n : ℕ) (l j : Loading) (bs : List ℕ) → Alike l j → NeedsAlike (image_from n l bs) (image_from n j bs)
+  unfolding image_from
+  from_same zero l j bs s = refl
+  from_same (suc n) l j bs s = bytes_same l j s bs _ _ (λ i o rest a. from_same n i o rest a)
 
-  needs-as-loading : (bs : List ℕ) → Needs-alike (image-after (nothing-loaded sizing) bs) (image bs)
-  unfolding image image-after memory-of
-  needs-as-loading bs =
-      from-same (suc (length bs)) (nothing-loaded sizing) (nothing-loaded today) bs
-      (record { rules-first = refl; rules-second = refl; written_same = refl; registers-same = refl; delivery-same = refl; has_same = refl; length-same = refl })
+  needs_as_loading : (bs : List ℕ) → NeedsAlike (image_after (nothing_loaded sizing) bs) (image bs)
+  unfolding image image_after memory_of
+  needs_as_loading bs =
+      from_same (suc (length bs)) (nothing_loaded sizing) (nothing_loaded today) bs
+      (record { rules_first = refl; rules_second = refl; written_same = refl; registers_same = refl; delivery_same = refl; has_same = refl; length_same = refl })
 
 -- THE RECORDS are the same by either rules
-front_same : (bs : List ℕ) → front-size sizing bs ≡ front-size today bs
-unfolding front-size size-by
-front_same bs = by-mark (mark_of bs)
+front_same : (bs : List ℕ) → front_size sizing bs ≡ front_size today bs
+unfolding front_size size_by
+front_same bs = by_mark (mark_of bs)
   where
-    by-mark : (k : Option Mark) → size-by sizing k (length bs) ≡ size-by today k (length bs)
-    by-mark none = refl
-    by-mark (some k) = rw (sizes-same k) refl
+    by_mark : (k : Option Mark) → size_by sizing k (length bs) ≡ size_by today k (length bs)
+    by_mark none = refl
+    by_mark (some k) = rw (sizes_same k) refl
 
-records-same : (bs : List ℕ) → records sizing bs ≡ records today bs
-unfolding records records-from
-records-same bs = by-fuel (length bs) bs
+records_same : (bs : List ℕ) → records sizing bs ≡ records today bs
+unfolding records records_from
+records_same bs = by_fuel (length bs) bs
   where
-    by-fuel : (n : ℕ) (xs : List ℕ) → records-from sizing n xs ≡ records-from today n xs
-    by-fuel zero xs = refl
-    by-fuel (suc n) xs =
+    by_fuel : (n : ℕ) (xs : List ℕ) → records_from sizing n xs ≡ records_from today n xs
+    by_fuel zero xs = refl
+    by_fuel (suc n) xs =
         rw (front_same xs)
-        (cond-rel ◌≡◌ {b = eqb (front-size today xs) 0} refl (λ _. refl) (λ _. ap (λ ys. take (front-size today xs) xs ∷ ys) (by-fuel n (drop (front-size today xs) xs))))
+        (cond_rel ◌≡◌ {b = eqb (front_size today xs) 0} refl (λ _. refl) (λ _. ap (λ ys. take (front_size today xs) xs ∷ ys) (by_fuel n (drop (front_size today xs) xs))))
 
 -- A REFUSAL'S NUMBER is never 0
 abbrev Numbered : Image → Type 0
-Numbered (refused-image n) = 1 ≤ n
+Numbered (refused_image n) = 1 ≤ n
 Numbered (loaded v m b) = Unit {0}
 
-unless-numbered : (n : ℕ) (x : Image) → Numbered x → Numbered (unless-refused n refused-image x)
-unfolding unless-refused
-unless-numbered zero x h = h
-unless-numbered (suc n) x h = omega arith
+unless_numbered : (n : ℕ) (x : Image) → Numbered x → Numbered (unless_refused n refused_image x)
+unfolding unless_refused
+unless_numbered zero x h = h
+unless_numbered (suc n) x h = omega arith
 
-record-numbered : (k : Mark) (l : Loading) (bs : List ℕ) (f : Loading → Image) → ((j : Loading) → Numbered (f j)) → Numbered (record-on k l bs f)
-unfolding record-on checked
-record-numbered ME l bs f h = h _
-record-numbered ST l bs f h = h _
-record-numbered WD l bs f h = h _
-record-numbered RN l bs f h = unless-numbered (start-questions l.delivery (machine-of l)) _ tt
+record_numbered : (k : Mark) (l : Loading) (bs : List ℕ) (f : Loading → Image) → ((j : Loading) → Numbered (f j)) → Numbered (record_on k l bs f)
+unfolding record_on checked
+record_numbered ME l bs f h = h _
+record_numbered ST l bs f h = h _
+record_numbered WD l bs f h = h _
+record_numbered RN l bs f h = unless_numbered (start_questions l.delivery (machine_of l)) _ tt
 
-marked-numbered : (k : Option Mark) (l : Loading) (bs : List ℕ) (f : Loading → List ℕ → Image) → ((j : Loading) (rest : List ℕ) → Numbered (f j rest)) →
-    Numbered (marked-on k l bs f)
-unfolding marked-on whole-record-on
-marked-numbered none l bs f h = lit≤ tt
-marked-numbered (some k) l bs f h =
-    cond-holds Numbered (leb (record-size l.rules k) (length bs))
-    (λ _. unless-numbered (record-questions k l _ bs) _ (record-numbered k l bs _ (λ j. h j _))) (λ _. lit≤ tt)
+marked_numbered : (k : Option Mark) (l : Loading) (bs : List ℕ) (f : Loading → List ℕ → Image) → ((j : Loading) (rest : List ℕ) → Numbered (f j rest)) →
+    Numbered (marked_on k l bs f)
+unfolding marked_on whole_record_on
+marked_numbered none l bs f h = lit≤ tt
+marked_numbered (some k) l bs f h =
+    cond_holds Numbered (leb (record_size l.rules k) (length bs))
+    (λ _. unless_numbered (record_questions k l _ bs) _ (record_numbered k l bs _ (λ j. h j _))) (λ _. lit≤ tt)
 
-image-numbered : (n : ℕ) (l : Loading) (bs : List ℕ) → Numbered (image-from n l bs)
-unfolding image-from bytes_on
-image-numbered zero l bs = lit≤ tt
-image-numbered (suc n) l [] = lit≤ tt
-image-numbered (suc n) l (b ∷ bs) = marked-numbered (mark_of (b ∷ bs)) l (b ∷ bs) _ (λ j rest. image-numbered n j rest)
+image_numbered : (n : ℕ) (l : Loading) (bs : List ℕ) → Numbered (image_from n l bs)
+unfolding image_from bytes_on
+image_numbered zero l bs = lit≤ tt
+image_numbered (suc n) l [] = lit≤ tt
+image_numbered (suc n) l (b ∷ bs) = marked_numbered (mark_of (b ∷ bs)) l (b ∷ bs) _ (λ j rest. image_numbered n j rest)
 
-pub needs-are-refused : Needs-refused
-unfolding image-needs needs-on image image-after
-needs-are-refused bs n e =
-    (needs-as-loading (word_count (records sizing bs)) bs ∙ ap (λ i. needs-on i (word_count (records sizing bs))) e, subst Numbered e (image-numbered (suc (length bs)) (nothing-loaded today) bs))
+pub needs_are_refused : NeedsRefused
+unfolding image_needs needs_on image image_after
+needs_are_refused bs n e =
+    (needs_as_loading (word_count (records sizing bs)) bs ∙ ap (λ i. needs_on i (word_count (records sizing bs))) e, subst Numbered e (image_numbered (suc (length bs)) (nothing_loaded today) bs))
 
-pub needs-are-accepted : Needs-accepted
-unfolding image-needs needs-on
-needs-are-accepted bs v m b e =
-    needs-as-loading (word_count (records sizing bs)) bs ∙ ap₂ needs-on e (ap word_count (records-same bs))
+pub needs_are_accepted : NeedsAccepted
+unfolding image_needs needs_on
+needs_are_accepted bs v m b e =
+    needs_as_loading (word_count (records sizing bs)) bs ∙ ap₂ needs_on e (ap word_count (records_same bs))
 
 -- AN ACCEPTED IMAGE'S BYTES: ME, ST and RN, and 14 for each WD. Those yet to come, but for the WDs
-abbrev bytes-due : Loading → ℕ
-bytes-due l = cond (has l.memory) 0 6 + cond (has l.registers) 0 66 + 6
+abbrev bytes_due : Loading → ℕ
+bytes_due l = cond (has l.memory) 0 6 + cond (has l.registers) 0 66 + 6
 
-module _ (l : Loading) (r : l.rules ≡ sizing) (x : List ℕ) (xs : List (List ℕ)) (t : List ℕ) (d : Delivery) (m : Machine) (b : ℕ) (all : All-whole sizing xs)
-    (more : (j : Loading) → j.rules ≡ sizing → image-after j (joined xs ++ t) ≡ loaded d m b → length (joined xs ++ t) ≡ bytes-due j + 14 * word_count xs) where
-  one-more-record : (k : Mark) → mark_of x ≡ some k → length x ≡ record-size sizing k → record-questions k l (length (joined xs ++ t)) x ≡ 0 →
-      record-on k l x (λ j. image-after j (joined xs ++ t)) ≡ loaded d m b → length x + length (joined xs ++ t) ≡ bytes-due l + 14 * word_count (x ∷ xs)
-  unfolding record-on with-record with-word in_order word_count is_word has record-size start-size
-  one-more-record ME q z a e =
-      rw (q, not-true (has l.memory) (ordered ME l _ x a)) (let h = more (with-record ME l x) r e in omega arith)
-  one-more-record ST q z a e =
+module _ (l : Loading) (r : l.rules ≡ sizing) (x : List ℕ) (xs : List (List ℕ)) (t : List ℕ) (d : Delivery) (m : Machine) (b : ℕ) (all : AllWhole sizing xs)
+    (more : (j : Loading) → j.rules ≡ sizing → image_after j (joined xs ++ t) ≡ loaded d m b → length (joined xs ++ t) ≡ bytes_due j + 14 * word_count xs) where
+  one_more_record : (k : Mark) → mark_of x ≡ some k → length x ≡ record_size sizing k → record_questions k l (length (joined xs ++ t)) x ≡ 0 →
+      record_on k l x (λ j. image_after j (joined xs ++ t)) ≡ loaded d m b → length x + length (joined xs ++ t) ≡ bytes_due l + 14 * word_count (x ∷ xs)
+  unfolding record_on with_record with_word in_order word_count is_word has record_size start_size
+  one_more_record ME q z a e =
+      rw (q, not-true (has l.memory) (ordered ME l _ x a)) (let h = more (with_record ME l x) r e in omega arith)
+  one_more_record ST q z a e =
       let o = ordered ST l _ x a in
       rw (q, and_left (has l.memory) (not (has l.registers)) o, not-true (has l.registers) (and_right (has l.memory) (not (has l.registers)) o))
-      (let h = rw (and_left (has l.memory) (not (has l.registers)) o) at (more (with-record ST l x) r e) in omega arith)
-  one-more-record WD q z a e = rw (q, ordered WD l _ x a) (let h = more (with-record WD l x) r e in omega arith)
-  one-more-record RN q z a e =
+      (let h = rw (and_left (has l.memory) (not (has l.registers)) o) at (more (with_record ST l x) r e) in omega arith)
+  one_more_record WD q z a e = rw (q, ordered WD l _ x a) (let h = more (with_record WD l x) r e in omega arith)
+  one_more_record RN q z a e =
       let o = ordered RN l _ x a in
       let g = and_right (has l.memory) (has l.registers && eqb (length (joined xs ++ t)) 0) o in
       rw (q, and_left (has l.memory) (has l.registers && eqb (length (joined xs ++ t)) 0) o, and_left (has l.registers) (eqb (length (joined xs ++ t)) 0) g)
-      (let h = last-has-none l _ o in let c = none-follow xs all h in omega arith)
+      (let h = last_has_none l _ o in let c = none_follow xs all h in omega arith)
     where
-      none-follow : (ys : List (List ℕ)) → All-whole sizing ys → length (joined ys ++ t) ≡ 0 → word_count ys ≡ 0
-      none-follow [] w e = refl
-      none-follow (y ∷ ys) w e = absurd (records-have-bytes y ys t w.0 e)
+      none_follow : (ys : List (List ℕ)) → AllWhole sizing ys → length (joined ys ++ t) ≡ 0 → word_count ys ≡ 0
+      none_follow [] w e = refl
+      none_follow (y ∷ ys) w e = absurd (records_have_bytes y ys t w.0 e)
 
-abbrev Is-refused : Image → Type 0
-Is-refused (refused-image n) = Unit {0}
-Is-refused (loaded v m b) = ⊥
+abbrev IsRefused : Image → Type 0
+IsRefused (refused_image n) = Unit {0}
+IsRefused (loaded v m b) = ⊥
 
-accepted-bytes-after : (l : Loading) (xs : List (List ℕ)) (t : List ℕ) (d : Delivery) (m : Machine) (b : ℕ) → l.rules ≡ sizing → All-whole sizing xs → front-size sizing t ≡ 0 →
-    image-after l (joined xs ++ t) ≡ loaded d m b → length (joined xs ++ t) ≡ bytes-due l + 14 * word_count xs
+accepted_bytes_after : (l : Loading) (xs : List (List ℕ)) (t : List ℕ) (d : Delivery) (m : Machine) (b : ℕ) → l.rules ≡ sizing → AllWhole sizing xs → front_size sizing t ≡ 0 →
+    image_after l (joined xs ++ t) ≡ loaded d m b → length (joined xs ++ t) ≡ bytes_due l + 14 * word_count xs
 unfolding joined
-accepted-bytes-after l [] t d m b r w z e = absurd (subst Is-refused (sym (part-refused l t (rw r z)) ∙ e) tt)
-accepted-bytes-after l (x ∷ xs) t d m b r w z e =
+accepted_bytes_after l [] t d m b r w z e = absurd (subst IsRefused (sym (part_refused l t (rw r z)) ∙ e) tt)
+accepted_bytes_after l (x ∷ xs) t d m b r w z e =
     let p = passed l r x xs t d m b w.0 e in
-    let f = one-more-record l r x xs t d m b w.1 (λ j s f. accepted-bytes-after j xs t d m b s w.1 z f) w.0.mark w.0.is-marked w.0.sized p.0 p.1 in
+    let f = one_more_record l r x xs t d m b w.1 (λ j s f. accepted_bytes_after j xs t d m b s w.1 z f) w.0.mark w.0.is_marked w.0.sized p.0 p.1 in
     let h = length-append (x ++ joined xs) t in
     let g = length-append x (joined xs) in
     let i = length-append (joined xs) t in
     omega arith
 
-accepted-bytes : (bs : List ℕ) (d : Delivery) (m : Machine) (b : ℕ) → image-after (nothing-loaded sizing) bs ≡ loaded d m b →
+accepted_bytes : (bs : List ℕ) (d : Delivery) (m : Machine) (b : ℕ) → image_after (nothing_loaded sizing) bs ≡ loaded d m b →
     length bs ≡ 78 + 14 * word_count (records sizing bs)
 unfolding has
-accepted-bytes bs d m b e =
+accepted_bytes bs d m b e =
     let c = cut sizing bs in
-    ap length (sym c.same) ∙ accepted-bytes-after (nothing-loaded sizing) (records sizing bs) (left_over sizing bs) d m b refl c.all_whole c.none_after
-    (ap (image-after (nothing-loaded sizing)) c.same ∙ e)
+    ap length (sym c.same) ∙ accepted_bytes_after (nothing_loaded sizing) (records sizing bs) (left_over sizing bs) d m b refl c.all_whole c.none_after
+    (ap (image_after (nothing_loaded sizing)) c.same ∙ e)
 
-pub needs-by-length : Needs-by-length
-unfolding image-needs needs-on
-needs-by-length bs = by-image (image-after (nothing-loaded sizing) bs) refl
+pub needs_by_length : NeedsByLength
+unfolding image_needs needs_on
+needs_by_length bs = by_image (image_after (nothing_loaded sizing) bs) refl
   where
-    by-image : (i : Image) → image-after (nothing-loaded sizing) bs ≡ i → needs-on i (word_count (records sizing bs)) ≡ needs-on i ((length bs - 78) / 14)
-    by-image (refused-image n) e = refl
-    by-image (loaded v m b) e =
-        ap (λ w. needs-of (length m.memory) w b) (let h = accepted-bytes bs v m b e in let q : word_count (records sizing bs) ≡ (length bs - 78) / 14 = omega arith in q)
+    by_image : (i : Image) → image_after (nothing_loaded sizing) bs ≡ i → needs_on i (word_count (records sizing bs)) ≡ needs_on i ((length bs - 78) / 14)
+    by_image (refused_image n) e = refl
+    by_image (loaded v m b) e =
+        ap (λ w. needs_of (length m.memory) w b) (let h = accepted_bytes bs v m b e in let q : word_count (records sizing bs) ≡ (length bs - 78) / 14 = omega arith in q)

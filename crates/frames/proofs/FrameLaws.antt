@@ -9,48 +9,48 @@ use lib.ListN.{length, get_or, set, take, length-map}
 use lib.Seq.{take-length}
 use Rattle.model.specs.Words as Words
 use Rattle.model.specs.Words.{pointer_word}
-use Rattle.model.specs.Registers.{Registers, Delivery, machine, dbr-word, zero-pointer}
-use Rattle.model.specs.Questions.{all, pointer-in-range}
-use Rattle.model.specs.Program.{descriptor-of}
-use Rattle.model.specs.Deliver.{frame, with-words, saved}
-use Rattle.model.proofs.ListLaws.{all-get}
-use Rattle.model.proofs.WordLaws.{in-range-within}
-use Rattle.words.specs.View.{as_pointer, Pointer-within}
+use Rattle.model.specs.Registers.{Registers, Delivery, machine, dbr_word, zero_pointer}
+use Rattle.model.specs.Questions.{all, pointer_in_range}
+use Rattle.model.specs.Program.{descriptor_of}
+use Rattle.model.specs.Deliver.{frame, with_words, saved}
+use Rattle.model.proofs.ListLaws.{all_get}
+use Rattle.model.proofs.WordLaws.{in_range_within}
+use Rattle.words.specs.View.{as_pointer, PointerWithin}
 use Rattle.words.specs.declared.descriptor.Descriptor.{Descriptor}
 use Rattle.words.specs.declared.pointer.Pointer.{Pointer}
-use Rattle.segments.specs.Translation.{descriptor-word}
-use Rattle.state.specs.View.{pointers-in, as-pointers, pr-of, as-registers, as-machine}
+use Rattle.segments.specs.Translation.{descriptor_word}
+use Rattle.state.specs.View.{pointers_in, as_pointers, pr_of, as_registers, as_machine}
 use Rattle.state.specs.declared.Core.{Core}
-use Rattle.frames.specs.Frame.{Savable, Saves-in, saves, Delivers}
+use Rattle.frames.specs.Frame.{Savable, SavesIn, saves, Delivers}
 use Rattle.frames.specs.declared.Saves.{Saves}
 use Rattle.frames.specs.declared.Saves.TheVariants.{No, In}
 
 -- WORD BY WORD
 module _ (c : Core) (prs : List ℕ) (n : ℕ) (t : Words.Pointer) (i w : ℕ) where
   abbrev whole : List ℕ
-  whole = frame n t (as-registers c prs)
+  whole = frame n t (as_registers c prs)
 
-  pub word-0 : i ≡ 0 → w ≡ n → w ≡ get_or whole i 0
+  pub word_0 : i ≡ 0 → w ≡ n → w ≡ get_or whole i 0
   unfolding frame
-  word-0 e f = f ∙ rw e
+  word_0 e f = f ∙ rw e
 
-  pub word-1 : i ≡ 1 → w ≡ pointer_word t → w ≡ get_or whole i 0
+  pub word_1 : i ≡ 1 → w ≡ pointer_word t → w ≡ get_or whole i 0
   unfolding frame
-  word-1 e f = f ∙ rw e
+  word_1 e f = f ∙ rw e
 
-  pub word-2 : i ≡ 2 → w ≡ c.a → w ≡ get_or whole i 0
+  pub word_2 : i ≡ 2 → w ≡ c.a → w ≡ get_or whole i 0
   unfolding frame
-  word-2 e f = f ∙ rw e
+  word_2 e f = f ∙ rw e
 
-  pub word-3 : i ≡ 3 → w ≡ c.dbr.address + 16777216 * c.dbr.length → w ≡ get_or whole i 0
-  unfolding frame dbr-word
-  word-3 e f = f ∙ rw e
+  pub word_3 : i ≡ 3 → w ≡ c.dbr.address + 16777216 * c.dbr.length → w ≡ get_or whole i 0
+  unfolding frame dbr_word
+  word_3 e f = f ∙ rw e
 
-  pub word-4 : i ≡ 4 → w ≡ pointer_word (as_pointer c.ipr) → w ≡ get_or whole i 0
+  pub word_4 : i ≡ 4 → w ≡ pointer_word (as_pointer c.ipr) → w ≡ get_or whole i 0
   unfolding frame
-  word-4 e f = f ∙ rw e
+  word_4 e f = f ∙ rw e
 
-mapped_at : (ps : List Words.Pointer) (k : ℕ) → k < length ps → get_or (map pointer_word ps) k 0 ≡ pointer_word (get_or ps k zero-pointer)
+mapped_at : (ps : List Words.Pointer) (k : ℕ) → k < length ps → get_or (map pointer_word ps) k 0 ≡ pointer_word (get_or ps k zero_pointer)
 mapped_at [] k h = absurd (omega arith)
 mapped_at (p ∷ ps) zero h = refl
 mapped_at (p ∷ ps) (suc k) h = mapped_at ps k (omega arith)
@@ -60,79 +60,79 @@ further xs a b d e f i h = ap (λ k. get_or (a ∷ b ∷ d ∷ e ∷ f ∷ xs) k
 
 module _ (c : Core) (prs : List ℕ) (n : ℕ) (t : Words.Pointer) (i w : ℕ) where
   -- any other is a PR's
-  pub word-of-pr : (i ≡ 0 → ⊥) → (i ≡ 1 → ⊥) → (i ≡ 2 → ⊥) → (i ≡ 3 → ⊥) → (i ≡ 4 → ⊥) → i < 13 → (p : Words.Pointer) → p ≡ pr-of prs (i - 5) → w ≡ pointer_word p →
-      w ≡ get_or (frame n t (as-registers c prs)) i 0
-  unfolding frame pr-of as-pointers pointers-in
-  word-of-pr x0 x1 x2 x3 x4 h p e f =
-      f ∙ ap pointer_word e ∙ sym (mapped_at (as-pointers prs) (i - 5) (omega arith))
-      ∙ sym (further (map pointer_word (as-pointers prs)) n (pointer_word t) c.a (dbr-word (record { address = c.dbr.address; length = c.dbr.length })) (pointer_word (as_pointer c.ipr)) i (omega arith))
+  pub word_of_pr : (i ≡ 0 → ⊥) → (i ≡ 1 → ⊥) → (i ≡ 2 → ⊥) → (i ≡ 3 → ⊥) → (i ≡ 4 → ⊥) → i < 13 → (p : Words.Pointer) → p ≡ pr_of prs (i - 5) → w ≡ pointer_word p →
+      w ≡ get_or (frame n t (as_registers c prs)) i 0
+  unfolding frame pr_of as_pointers pointers_in
+  word_of_pr x0 x1 x2 x3 x4 h p e f =
+      f ∙ ap pointer_word e ∙ sym (mapped_at (as_pointers prs) (i - 5) (omega arith))
+      ∙ sym (further (map pointer_word (as_pointers prs)) n (pointer_word t) c.a (dbr_word (record { address = c.dbr.address; length = c.dbr.length })) (pointer_word (as_pointer c.ipr)) i (omega arith))
 
 -- a PR is in range
-pub pr-savable : (c : Core) (prs : List ℕ) (k : ℕ) (p : Pointer) → Savable c prs → as_pointer p ≡ pr-of prs k → Pointer-within p
-unfolding pr-of pointer-in-range
-pr-savable c prs k p s e =
-    let h = in-range-within (get_or (as-pointers prs) k zero-pointer) (all-get pointer-in-range (as-pointers prs) k zero-pointer s.prs-in-range refl) in
+pub pr_savable : (c : Core) (prs : List ℕ) (k : ℕ) (p : Pointer) → Savable c prs → as_pointer p ≡ pr_of prs k → PointerWithin p
+unfolding pr_of pointer_in_range
+pr_savable c prs k p s e =
+    let h = in_range_within (get_or (as_pointers prs) k zero_pointer) (all_get pointer_in_range (as_pointers prs) k zero_pointer s.prs_in_range refl) in
     let x = ap (λ (q : Words.Pointer). q.ring) e in
     let y = ap (λ (q : Words.Pointer). q.segment) e in
     let z = ap (λ (q : Words.Pointer). q.word) e in
-    let a = h.ring-within in
-    let b = h.segment-within in
-    let d = h.word-within in
-    record { ring-within = omega (arith, x, a); segment-within = omega (arith, y, b); word-within = omega (arith, z, d) }
+    let a = h.ring_within in
+    let b = h.segment_within in
+    let d = h.word_within in
+    record { ring_within = omega (arith, x, a); segment_within = omega (arith, y, b); word_within = omega (arith, z, d) }
 
-pub ruleset frame-words = (word-0, word-1, word-2, word-3, word-4, word-of-pr, pr-savable)
+pub ruleset frame_words = (word_0, word_1, word_2, word_3, word_4, word_of_pr, pr_savable)
 
 -- THE FRAME WRITTEN, one word more each turn
-one_word_more : (a i : ℕ) (ws m : List ℕ) → i < length ws → with-words a (take (suc i) ws) m ≡ set (with-words a (take i ws) m) (a + i) (get_or ws i 0)
-unfolding with-words
+one_word_more : (a i : ℕ) (ws m : List ℕ) → i < length ws → with_words a (take (suc i) ws) m ≡ set (with_words a (take i ws) m) (a + i) (get_or ws i 0)
+unfolding with_words
 one_word_more a i [] m h = absurd (omega arith)
 one_word_more a zero (w ∷ ws) m h = ap (λ x. set m x w) (let z : a ≡ a + 0 = omega arith in z)
 one_word_more a (suc i) (w ∷ ws) m h =
     one_word_more (suc a) i ws (set m a w) (omega arith)
-    ∙ ap (λ x. set (with-words (suc a) (take i ws) (set m a w)) x (get_or ws i 0)) (let z : suc a + i ≡ a + suc i = omega arith in z)
+    ∙ ap (λ x. set (with_words (suc a) (take i ws) (set m a w)) x (get_or ws i 0)) (let z : suc a + i ≡ a + suc i = omega arith in z)
 
-pub frame-length : (n : ℕ) (t : Words.Pointer) (c : Core) (prs : List ℕ) → length (frame n t (as-registers c prs)) ≡ 13
-unfolding frame as-pointers pointers-in
-frame-length n t c prs = refl
+pub frame_length : (n : ℕ) (t : Words.Pointer) (c : Core) (prs : List ℕ) → length (frame n t (as_registers c prs)) ≡ 13
+unfolding frame as_pointers pointers_in
+frame_length n t c prs = refl
 
 module _ (c : Core) (prs : List ℕ) (n : ℕ) (t : Words.Pointer) (a : ℕ) (m : List ℕ) where
-  pub nothing_written : m ≡ with-words a (take 0 (frame n t (as-registers c prs))) m
-  unfolding with-words
+  pub nothing_written : m ≡ with_words a (take 0 (frame n t (as_registers c prs))) m
+  unfolding with_words
   nothing_written = refl
 
-  pub written-more : (i w : ℕ) (k u : List ℕ) → i < 13 → k ≡ with-words a (take i (frame n t (as-registers c prs))) m →
-      w ≡ get_or (frame n t (as-registers c prs)) i 0 → u ≡ set k (a + i) w → u ≡ with-words a (take (i + 1) (frame n t (as-registers c prs))) m
-  written-more i w k u h e f g =
-      g ∙ rw (e, f, add-one) (sym (one_word_more a i (frame n t (as-registers c prs)) m (let z = frame-length n t c prs in omega (arith, h, z))))
+  pub written_more : (i w : ℕ) (k u : List ℕ) → i < 13 → k ≡ with_words a (take i (frame n t (as_registers c prs))) m →
+      w ≡ get_or (frame n t (as_registers c prs)) i 0 → u ≡ set k (a + i) w → u ≡ with_words a (take (i + 1) (frame n t (as_registers c prs))) m
+  written_more i w k u h e f g =
+      g ∙ rw (e, f, add-one) (sym (one_word_more a i (frame n t (as_registers c prs)) m (let z = frame_length n t c prs in omega (arith, h, z))))
 
-  pub all-written : (i : ℕ) (k : List ℕ) → i ≤ 13 → 13 ≤ i → k ≡ with-words a (take i (frame n t (as-registers c prs))) m → k ≡ with-words a (frame n t (as-registers c prs)) m
-  all-written i k h l e =
-      let z : i ≡ length (frame n t (as-registers c prs)) = let y = frame-length n t c prs in omega (arith, h, l, y) in
-      e ∙ ap (λ ws. with-words a ws m) (ap (λ j. take j (frame n t (as-registers c prs))) z ∙ take-length (frame n t (as-registers c prs)))
+  pub all_written : (i : ℕ) (k : List ℕ) → i ≤ 13 → 13 ≤ i → k ≡ with_words a (take i (frame n t (as_registers c prs))) m → k ≡ with_words a (frame n t (as_registers c prs)) m
+  all_written i k h l e =
+      let z : i ≡ length (frame n t (as_registers c prs)) = let y = frame_length n t c prs in omega (arith, h, l, y) in
+      e ∙ ap (λ ws. with_words a ws m) (ap (λ j. take j (frame n t (as_registers c prs))) z ∙ take-length (frame n t (as_registers c prs)))
 
-pub ruleset frame-writes = (nothing_written, written-more, all-written)
+pub ruleset frame_writes = (nothing_written, written_more, all_written)
 
 -- DELIVERED OR NOT
 module _ (v : Delivery) (c : Core) (prs m : List ℕ) (n : ℕ) (t : Words.Pointer) (y : Saves) (s : saves v c m y) where
-  pub not-delivered : y ≡ No → Delivers v n t (as-machine c prs m) false m
-  not-delivered e =
+  pub not_delivered : y ≡ No → Delivers v n t (as_machine c prs m) false m
+  not_delivered e =
       let h = rw e at s in
-      record { same = sym (h (as-pointers prs)); written = λ q. absurd (true≢false (sym q)); kept = λ _. refl }
+      record { same = sym (h (as_pointers prs)); written = λ q. absurd (true≢false (sym q)); kept = λ _. refl }
 
-  pub is-delivered : (d : Descriptor) (start : ℕ) (u : List ℕ) → y ≡ In d → start ≡ (Words.descriptor-in d.0).address → u ≡ with-words start (frame n t (as-registers c prs)) m →
-      Delivers v n t (as-machine c prs m) true u
-  unfolding saved machine descriptor-of descriptor-word
-  is-delivered d start u g e f =
+  pub is_delivered : (d : Descriptor) (start : ℕ) (u : List ℕ) → y ≡ In d → start ≡ (Words.descriptor_in d.0).address → u ≡ with_words start (frame n t (as_registers c prs)) m →
+      Delivers v n t (as_machine c prs m) true u
+  unfolding saved machine descriptor_of descriptor_word
+  is_delivered d start u g e f =
       let h = rw g at s in
       record {
-        same = sym (h.delivers-here (as-pointers prs));
-        written = λ _. f ∙ ap (λ a. with-words a (frame n t (as-registers c prs)) m) (e ∙ ap (λ w. (Words.descriptor-in w).address) h.same);
+        same = sym (h.delivers_here (as_pointers prs));
+        written = λ _. f ∙ ap (λ a. with_words a (frame n t (as_registers c prs)) m) (e ∙ ap (λ w. (Words.descriptor_in w).address) h.same);
         kept = λ q. absurd (true≢false q);
       }
 
 -- the save segment has room for the frame
-pub room-for-frame : (v : Delivery) (c : Core) (m : List ℕ) (y : Saves) (d : Descriptor) (start : ℕ) → saves v c m y → y ≡ In d → start ≡ (Words.descriptor-in d.0).address →
+pub room_for_frame : (v : Delivery) (c : Core) (m : List ℕ) (y : Saves) (d : Descriptor) (start : ℕ) → saves v c m y → y ≡ In d → start ≡ (Words.descriptor_in d.0).address →
     start + 13 ≤ length m
-room-for-frame v c m y d start s g e = let h = (rw g at s).fits in omega (arith, h, e)
+room_for_frame v c m y d start s g e = let h = (rw g at s).fits in omega (arith, h, e)
 
-pub ruleset deliveries = (not-delivered, is-delivered, room-for-frame)
+pub ruleset deliveries = (not_delivered, is_delivered, room_for_frame)

@@ -8,81 +8,81 @@ use lib.Dec.{ltb, leb, eqb}
 use lib.ListN.{length}
 use borrow.Author.Tests.{lt-ltb, ltb-true, leb-true, le-leb, ne_eqb}
 use Rattle.model.specs.Words as Words
-use Rattle.model.specs.Words.{Pointer, descriptor-in}
+use Rattle.model.specs.Words.{Pointer, descriptor_in}
 use Rattle.model.specs.Registers.{Delivery}
-use Rattle.model.specs.Questions.{ask, then-ask, segment-questions, word-questions, use-questions, may_write, write-questions}
+use Rattle.model.specs.Questions.{ask, then_ask, segment_questions, word_questions, use_questions, may_write, write_questions}
 use Rattle.model.proofs.BranchLaws.{and_left}
-use Rattle.model.proofs.QuestionLaws.{ask-yes, then-ask-yes}
-use Rattle.model.specs.Program.{descriptor-of}
-use Rattle.model.specs.Reach.{segment-passes}
-use Rattle.model.specs.Deliver.{can-save, delivers}
+use Rattle.model.proofs.QuestionLaws.{ask_yes, then_ask_yes}
+use Rattle.model.specs.Program.{descriptor_of}
+use Rattle.model.specs.Reach.{segment_passes}
+use Rattle.model.specs.Deliver.{can_save, delivers}
 use Rattle.words.specs.declared.descriptor.Descriptor.{Descriptor}
-use Rattle.segments.specs.Translation.{as-dbr, descriptor-word, use-at, use-by, Looks, looked}
+use Rattle.segments.specs.Translation.{as_dbr, descriptor_word, use_at, use_by, Looks, looked}
 use Rattle.segments.specs.declared.translate.Translated.{Translated}
 use Rattle.segments.specs.declared.translate.Translated.TheVariants.{Refused, Passed}
-use Rattle.segments.proofs.UseLaws.{looks-passes}
-use Rattle.state.specs.View.{machine-with}
+use Rattle.segments.proofs.UseLaws.{looks_passes}
+use Rattle.state.specs.View.{machine_with}
 use Rattle.state.specs.declared.Core.{Core}
-use Rattle.frames.specs.Frame.{Saves-in}
+use Rattle.frames.specs.Frame.{SavesIn}
 
 -- the tests in the code's order: the switch, 11 to 14, LENGTH and W
 module _ (v : Delivery) (c : Core) (m : List ℕ) (ps : List Pointer) where
-  by_parts : delivers v (machine-with c ps m)
+  by_parts : delivers v (machine_with c ps m)
       ≡ (eqb v.switch 1
-      && (eqb (segment-questions (length m) (as-dbr c.dbr) v.save (descriptor-in (descriptor-word (as-dbr c.dbr) m v.save))) 0
-      && (leb 13 (descriptor-in (descriptor-word (as-dbr c.dbr) m v.save)).length && (descriptor-in (descriptor-word (as-dbr c.dbr) m v.save)).write)))
-  unfolding delivers can-save segment-passes descriptor-of descriptor-word
+      && (eqb (segment_questions (length m) (as_dbr c.dbr) v.save (descriptor_in (descriptor_word (as_dbr c.dbr) m v.save))) 0
+      && (leb 13 (descriptor_in (descriptor_word (as_dbr c.dbr) m v.save)).length && (descriptor_in (descriptor_word (as_dbr c.dbr) m v.save)).write)))
+  unfolding delivers can_save segment_passes descriptor_of descriptor_word
   by_parts = refl
 
-and-false : (a b : Bool) → b ≡ false → (a && b) ≡ false
-and-false true b e = e
-and-false false b e = refl
+and_false : (a b : Bool) → b ≡ false → (a && b) ≡ false
+and_false true b e = e
+and_false false b e = refl
 
 -- 11 to 14, the thirteenth word or W has a no
-not-all : (a l k n : ℕ) (b : Bool) → then-ask (then-ask a (ask (ltb 12 l) 15 0)) (ask (b && leb 0 k) 23 0) ≡ n → 1 ≤ n → (eqb a 0 && (leb 13 l && b)) ≡ false
-unfolding then-ask ask
-not-all (suc a) l k n b g h = rw (ne_eqb (suc a) 0 (λ z. omega arith))
-not-all zero l k n false g h = and-false (leb 13 l) false refl
-not-all zero l k n true g h = by-test (leb 13 l) refl
+not_all : (a l k n : ℕ) (b : Bool) → then_ask (then_ask a (ask (ltb 12 l) 15 0)) (ask (b && leb 0 k) 23 0) ≡ n → 1 ≤ n → (eqb a 0 && (leb 13 l && b)) ≡ false
+unfolding then_ask ask
+not_all (suc a) l k n b g h = rw (ne_eqb (suc a) 0 (λ z. omega arith))
+not_all zero l k n false g h = and_false (leb 13 l) false refl
+not_all zero l k n true g h = by_test (leb 13 l) refl
   where
-    by-test : (t : Bool) → leb 13 l ≡ t → (leb 13 l && true) ≡ false
-    by-test true q =
+    by_test : (t : Bool) → leb 13 l ≡ t → (leb 13 l && true) ≡ false
+    by_test true q =
         absurd (let z = lt-ltb 12 l (leb-true 13 l q) in let x = le-leb 0 k (omega arith) in let y : 0 ≡ n = sym (rw (z, x)) ∙ g in omega arith)
-    by-test false q = rw q
+    by_test false q = rw q
 
 module _ (v : Delivery) (c : Core) (m : List ℕ) where
-  pub switched-off : (v.switch ≡ 1 → ⊥) → (ps : List Pointer) → delivers v (machine-with c ps m) ≡ false
-  switched-off h ps = by_parts v c m ps ∙ rw (ne_eqb _ _ h)
+  pub switched_off : (v.switch ≡ 1 → ⊥) → (ps : List Pointer) → delivers v (machine_with c ps m) ≡ false
+  switched_off h ps = by_parts v c m ps ∙ rw (ne_eqb _ _ h)
 
   -- a pointer of ring 0 to the thirteenth word of the save segment, about to write
-  module _ (t : Pointer) (low : t.ring ≡ 0) (e : t.segment ≡ v.save) (twelve : t.word ≡ 12) (y : Translated) (s : looked (as-dbr c.dbr) m t (write-questions t) y) where
+  module _ (t : Pointer) (low : t.ring ≡ 0) (e : t.segment ≡ v.save) (twelve : t.word ≡ 12) (y : Translated) (s : looked (as_dbr c.dbr) m t (write_questions t) y) where
     abbrev save : Words.Descriptor
-    save = descriptor-in (descriptor-word (as-dbr c.dbr) m v.save)
+    save = descriptor_in (descriptor_word (as_dbr c.dbr) m v.save)
 
-    asked : use-by (as-dbr c.dbr) m t (write-questions t)
-        ≡ then-ask (then-ask (segment-questions (length m) (as-dbr c.dbr) v.save save) (ask (ltb 12 save.length) 15 0))
+    asked : use_by (as_dbr c.dbr) m t (write_questions t)
+        ≡ then_ask (then_ask (segment_questions (length m) (as_dbr c.dbr) v.save save) (ask (ltb 12 save.length) 15 0))
         (ask (save.write && leb 0 save.r1) 23 0)
-    unfolding use-by use-at use-questions word-questions write-questions may_write
+    unfolding use_by use_at use_questions word_questions write_questions may_write
     asked = rw (low, e, twelve)
 
-    pub unfit : (n : ℕ) → y ≡ Refused n → (ps : List Pointer) → delivers v (machine-with c ps m) ≡ false
+    pub unfit : (n : ℕ) → y ≡ Refused n → (ps : List Pointer) → delivers v (machine_with c ps m) ≡ false
     unfit n f ps =
         let h = rw f at s in
-        by_parts v c m ps ∙ and-false (eqb v.switch 1) _ (not-all _ save.length save.r1 n save.write (sym asked ∙ h.0) h.1)
+        by_parts v c m ps ∙ and_false (eqb v.switch 1) _ (not_all _ save.length save.r1 n save.write (sym asked ∙ h.0) h.1)
 
     module _ (d : Descriptor) (f : y ≡ Passed d) where
-      passed : Looks (as-dbr c.dbr) m t (write-questions t) d.0
+      passed : Looks (as_dbr c.dbr) m t (write_questions t) d.0
       passed = rw f at s
 
-      pub can-be-saved : v.switch ≡ 1 → Saves-in v c m d.0
-      can-be-saved on =
-          let answer = then-ask-yes _ _ (sym asked ∙ looks-passes _ _ _ _ _ passed) in
-          let place = then-ask-yes _ _ answer.0 in
-          let long : 13 ≤ save.length = ltb-true 12 _ (ask-yes _ _ _ place.1).0 in
+      pub can_be_saved : v.switch ≡ 1 → SavesIn v c m d.0
+      can_be_saved on =
+          let answer = then_ask_yes _ _ (sym asked ∙ looks_passes _ _ _ _ _ passed) in
+          let place = then_ask_yes _ _ answer.0 in
+          let long : 13 ≤ save.length = ltb-true 12 _ (ask_yes _ _ _ place.1).0 in
           record {
-            delivers-here = λ ps. by_parts v c m ps ∙ rw (on, place.0, le-leb 13 _ long, and_left save.write _ (ask-yes _ _ _ answer.1).0);
-            same = passed.found.same ∙ ap (descriptor-word (as-dbr c.dbr) m) e;
+            delivers_here = λ ps. by_parts v c m ps ∙ rw (on, place.0, le-leb 13 _ long, and_left save.write _ (ask_yes _ _ _ answer.1).0);
+            same = passed.found.same ∙ ap (descriptor_word (as_dbr c.dbr) m) e;
             fits = let r = passed.found.fits in let l = passed.found.inside in omega (arith, r, l, twelve);
           }
 
-pub ruleset save-answers = (switched-off, unfit, can-be-saved)
+pub ruleset save_answers = (switched_off, unfit, can_be_saved)

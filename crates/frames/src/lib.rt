@@ -1,8 +1,8 @@
 // A fault delivered: the registers at the fault as thirteen words of the save segment.
 ghost use Rattle.std.specs.Prelude.{◌≡◌, ◌+◌, ◌*◌, ◌<◌, ◌≤◌, length, get_or};
-ghost use Rattle.model.specs.Deliver.{frame, with-words};
-ghost use Rattle.words.specs.View.{as_pointer, Pointer-within};
-ghost use Rattle.state.specs.View.{as-registers, as-machine, as-delivery, Ready};
+ghost use Rattle.model.specs.Deliver.{frame, with_words};
+ghost use Rattle.words.specs.View.{as_pointer, PointerWithin};
+ghost use Rattle.state.specs.View.{as_registers, as_machine, as_delivery, Ready};
 ghost use Rattle.frames.specs.Frame.{Savable, saves, Delivers};
 
 use questions::Use;
@@ -22,7 +22,7 @@ enum Saves {
 // is refused.
 fn save_segment(delivery: Delivery, core: Core, memory: &[u64]) -> Saves
     requires { Ready core memory.now }
-    ensures { saves (as-delivery delivery) core memory.now result }
+    ensures { saves (as_delivery delivery) core memory.now result }
 {
     if delivery.switch != 1 {
         return Saves::No;
@@ -49,8 +49,8 @@ fn dbr_word(dbr: Dbr) -> u64
 
 // A word of the frame.
 fn frame_word(core: Core, prs: &[u16; 24], number: u8, t: Pointer, i: usize) -> u64
-    requires { (i < 13) × Savable core prs.now × Pointer-within t }
-    ensures { result ≡ get_or (frame number (as_pointer t) (as-registers core prs.now)) i 0 }
+    requires { (i < 13) × Savable core prs.now × PointerWithin t }
+    ensures { result ≡ get_or (frame number (as_pointer t) (as_registers core prs.now)) i 0 }
 {
     match i {
         0 => number as u64,
@@ -71,8 +71,8 @@ pub fn write_frame(
     number: u8,
     t: Pointer,
 )
-    requires { (start + 13 ≤ length memory.old) × Savable core prs.now × Pointer-within t }
-    ensures { memory.new ≡ with-words start (frame number (as_pointer t) (as-registers core prs.now)) memory.old }
+    requires { (start + 13 ≤ length memory.old) × Savable core prs.now × PointerWithin t }
+    ensures { memory.new ≡ with_words start (frame number (as_pointer t) (as_registers core prs.now)) memory.old }
 {
     let mut i: usize = 0;
     while i < 13 {
@@ -90,8 +90,8 @@ pub fn deliver(
     number: u8,
     t: Pointer,
 ) -> bool
-    requires { Ready core memory.old × Savable core prs.now × Pointer-within t }
-    ensures { Delivers (as-delivery delivery) number (as_pointer t) (as-machine core prs.now memory.old) result memory.new }
+    requires { Ready core memory.old × Savable core prs.now × PointerWithin t }
+    ensures { Delivers (as_delivery delivery) number (as_pointer t) (as_machine core prs.now memory.old) result memory.new }
 {
     match save_segment(delivery, core, memory) {
         Saves::No => false,

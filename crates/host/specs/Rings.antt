@@ -9,8 +9,8 @@ unfoldable pub packed : List ℕ → ℕ
 packed [] = 0
 packed (n ∷ ns) = packed ns * 256 + n
 
-unfoldable pub packed-rings : List Pointer → ℕ
-packed-rings ps = packed (map (λ p. p.ring) ps)
+unfoldable pub packed_rings : List Pointer → ℕ
+packed_rings ps = packed (map (λ p. p.ring) ps)
 
 -- 1 and 8 as each of eight bytes
 abbrev pub ones : ℕ
@@ -24,10 +24,10 @@ unfoldable pub joined : List ℕ → ℕ
 joined [] = 0
 joined (n ∷ ns) = bit_or n (joined ns)
 
-unfoldable pub joined-segments : List Pointer → ℕ
-joined-segments ps = joined (map (λ p. p.segment) ps)
+unfoldable pub joined_segments : List Pointer → ℕ
+joined_segments ps = joined (map (λ p. p.segment) ps)
 
 -- the segments' bits; the words are in range as they are
 pub record Joined (ps : List Pointer) (n : ℕ) : Type 0 where
-  pub bits : n ≡ joined-segments ps
-  pub words-within : all (λ p. leb p.word 65535) ps ≡ true
+  pub bits : n ≡ joined_segments ps
+  pub words_within : all (λ p. leb p.word 65535) ps ≡ true

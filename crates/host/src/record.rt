@@ -1,8 +1,8 @@
 // The register record that a host hands over, and the core's form of it.
 ghost use Rattle.std.specs.Prelude.{◌≡◌, ◌≤◌};
 ghost use Rattle.words.specs.View as Words;
-ghost use Rattle.segments.specs.Translation.{as-dbr};
-ghost use Rattle.host.specs.Record.{pointer-of, base-of, Converted};
+ghost use Rattle.segments.specs.Translation.{as_dbr};
+ghost use Rattle.host.specs.Record.{pointer_of, base_of, Converted};
 
 use segments::translate::Dbr;
 use state::{Core, Delivery};
@@ -37,7 +37,7 @@ pub struct Registers {
 
 // The core's form of a pointer, and back.
 pub fn to_core(p: Pointer) -> words::pointer::Pointer
-    ensures { (Words.as_pointer result ≡ pointer-of p) × (result.ring ≤ 255) × (result.segment.0 ≤ 65535) × (result.word.0 ≤ 65535) }
+    ensures { (Words.as_pointer result ≡ pointer_of p) × (result.ring ≤ 255) × (result.segment.0 ≤ 65535) × (result.word.0 ≤ 65535) }
 {
     words::pointer::Pointer {
         ring: p.ring as u64,
@@ -48,7 +48,7 @@ pub fn to_core(p: Pointer) -> words::pointer::Pointer
 
 pub fn from_core(p: words::pointer::Pointer) -> Pointer
     requires { (p.ring ≤ 255) × (p.segment.0 ≤ 65535) × (p.word.0 ≤ 65535) }
-    ensures { pointer-of result ≡ Words.as_pointer p }
+    ensures { pointer_of result ≡ Words.as_pointer p }
 {
     Pointer {
         ring: p.ring as u8,
@@ -59,7 +59,7 @@ pub fn from_core(p: words::pointer::Pointer) -> Pointer
 
 // The core's form of DBR, and back.
 pub fn to_base(d: DescriptorBase) -> Dbr
-    ensures { (as-dbr result ≡ base-of d) × (result.address ≤ 4294967295) × (result.length ≤ 65535) }
+    ensures { (as_dbr result ≡ base_of d) × (result.address ≤ 4294967295) × (result.length ≤ 65535) }
 {
     Dbr {
         address: d.address as u64,
@@ -69,7 +69,7 @@ pub fn to_base(d: DescriptorBase) -> Dbr
 
 pub fn from_base(b: Dbr) -> DescriptorBase
     requires { (b.address ≤ 4294967295) × (b.length ≤ 65535) }
-    ensures { base-of result ≡ as-dbr b }
+    ensures { base_of result ≡ as_dbr b }
 {
     DescriptorBase {
         address: b.address as u32,

@@ -1,13 +1,13 @@
 // Questions 1 to 4, asked once of what a host hands over.
 ghost use Rattle.std.specs.Prelude.{◌≡◌, true, ◌-◌, ◌*◌, ◌<◌, ◌≤◌, eqb, length};
 ghost use Rattle.std.specs.Int.Bits.{bit_and, bit_or};
-ghost use Rattle.model.specs.Registers.{no-delivery};
+ghost use Rattle.model.specs.Registers.{no_delivery};
 ghost use Rattle.model.specs.Questions as Questions;
 ghost use Rattle.model.specs.Check as Check;
 ghost use Rattle.words.specs.View.{as_pointer};
-ghost use Rattle.state.specs.View.{as-pointers, as-machine, as-delivery, pr-of};
-ghost use Rattle.host.specs.Record.{machine-of, delivery-of, Answers-any};
-ghost use Rattle.host.specs.Rings.{packed-rings, Joined, ones, eights};
+ghost use Rattle.state.specs.View.{as_pointers, as_machine, as_delivery, pr_of};
+ghost use Rattle.host.specs.Record.{machine_of, delivery_of, AnswersAny};
+ghost use Rattle.host.specs.Rings.{packed_rings, Joined, ones, eights};
 
 use crate::record::Registers;
 use state::{Core, Delivery};
@@ -15,7 +15,7 @@ use words::pointer::{Pointer, SegmentNumber, WordNumber};
 
 // 2 of one pointer.
 fn is_in_range(p: Pointer) -> bool
-    ensures { result ≡ Questions.pointer-in-range (as_pointer p) }
+    ensures { result ≡ Questions.pointer_in_range (as_pointer p) }
 {
     (p.ring <= 7) & ((p.segment.0 <= 4095) & (p.word.0 <= 65535))
 }
@@ -23,7 +23,7 @@ fn is_in_range(p: Pointer) -> bool
 // RING of a PR.
 fn ring_of(prs: &[u16; 24], number: usize) -> u64
     requires { number < 8 }
-    ensures { (result ≡ (pr-of prs.now number).ring) × (result ≤ 255) }
+    ensures { (result ≡ (pr_of prs.now number).ring) × (result ≤ 255) }
 {
     state::prs::pr(prs, number).ring
 }
@@ -31,14 +31,14 @@ fn ring_of(prs: &[u16; 24], number: usize) -> u64
 // SEGNO of a PR; WORDNO is in range as it is.
 fn segment_of(prs: &[u16; 24], number: usize) -> u64
     requires { number < 8 }
-    ensures { (result ≡ (pr-of prs.now number).segment) × ((pr-of prs.now number).word ≤ 65535) }
+    ensures { (result ≡ (pr_of prs.now number).segment) × ((pr_of prs.now number).word ≤ 65535) }
 {
     state::prs::pr(prs, number).segment.0
 }
 
 // The rings of the PRs, a byte each.
 fn rings_of(prs: &[u16; 24]) -> u64
-    ensures { result ≡ packed-rings (as-pointers prs.now) }
+    ensures { result ≡ packed_rings (as_pointers prs.now) }
 {
     ring_of(prs, 0)
         + 256 * ring_of(prs, 1)
@@ -52,7 +52,7 @@ fn rings_of(prs: &[u16; 24]) -> u64
 
 // The bits of all segment numbers of the PRs.
 fn segments_of(prs: &[u16; 24]) -> u64
-    ensures { Joined (as-pointers prs.now) result }
+    ensures { Joined (as_pointers prs.now) result }
 {
     segment_of(prs, 0)
         | (segment_of(prs, 1)
@@ -64,7 +64,7 @@ fn segments_of(prs: &[u16; 24]) -> u64
 
 // 2 of every PR: no ring has a bit above its lowest three, no segment number one above its lowest twelve.
 fn prs_are_in_range(prs: &[u16; 24]) -> bool
-    ensures { result ≡ Questions.all Questions.pointer-in-range (as-pointers prs.now) }
+    ensures { result ≡ Questions.all Questions.pointer_in_range (as_pointers prs.now) }
 {
     ((rings_of(prs) & 0xF8F8F8F8F8F8F8F8) == 0) & (segments_of(prs) <= 4095)
 }
@@ -80,22 +80,22 @@ fn bytes_are_at_least(ring: u64, bytes: u64) -> bool
 
 // 3, where 2 has a yes: no PR's ring below IPR's.
 fn are_at_least(ring: u64, prs: &[u16; 24]) -> bool
-    requires { (ring ≤ 7) × (Questions.all Questions.pointer-in-range (as-pointers prs.now) ≡ true) }
-    ensures { result ≡ Questions.rings-at-least ring (as-pointers prs.now) }
+    requires { (ring ≤ 7) × (Questions.all Questions.pointer_in_range (as_pointers prs.now) ≡ true) }
+    ensures { result ≡ Questions.rings_at_least ring (as_pointers prs.now) }
 {
     bytes_are_at_least(ring, rings_of(prs))
 }
 
 // 2 of the switch and its segments.
 pub fn is_delivery(delivery: Delivery) -> bool
-    ensures { result ≡ Questions.delivery-in-range (as-delivery delivery) }
+    ensures { result ≡ Questions.delivery_in_range (as_delivery delivery) }
 {
     (delivery.switch <= 1) & ((delivery.save <= 4095) & (delivery.handler <= 4095))
 }
 
 // 1 and 2, where the switch and its segments have a no.
 pub fn delivery_refused(memory: &[u64]) -> u8
-    ensures { result ≡ Questions.ask (Questions.memory-fits (length memory.now)) 1 2 }
+    ensures { result ≡ Questions.ask (Questions.memory_fits (length memory.now)) 1 2 }
 {
     if 16777216 < memory.len() {
         return 1;
@@ -105,7 +105,7 @@ pub fn delivery_refused(memory: &[u64]) -> u8
 
 // 1 to 4, but for 2 of the switch and its segments: the number of the first no, or 0.
 pub fn start_answer(core: Core, prs: &[u16; 24], memory: &[u64]) -> u8
-    ensures { result ≡ Questions.start-questions no-delivery (as-machine core prs.now memory.now) }
+    ensures { result ≡ Questions.start_questions no_delivery (as_machine core prs.now memory.now) }
 {
     if 16777216 < memory.len() {
         return 1;
@@ -134,7 +134,7 @@ pub fn start_answer(core: Core, prs: &[u16; 24], memory: &[u64]) -> u8
 // The same with 2 of the switch and its segments, and of a pointer handed in, for any memory of that size. It is not made of
 // `start_answer`: that has one caller, so that the compiler merges it into the loop of a run.
 pub fn size_answer(delivery: Delivery, p: Pointer, core: Core, prs: &[u16; 24], size: usize) -> u8
-    ensures { Answers-any result size (λ m. Check.check-questions (as-delivery delivery) (as-machine core prs.now m) (as_pointer p)) }
+    ensures { AnswersAny result size (λ m. Check.check_questions (as_delivery delivery) (as_machine core prs.now m) (as_pointer p)) }
 {
     if 16777216 < size {
         return 1;
@@ -174,14 +174,14 @@ pub fn check_answer(
     prs: &[u16; 24],
     memory: &[u64],
 ) -> u8
-    ensures { result ≡ Check.check-questions (as-delivery delivery) (as-machine core prs.now memory.now) (as_pointer p) }
+    ensures { result ≡ Check.check_questions (as_delivery delivery) (as_machine core prs.now memory.now) (as_pointer p) }
 {
     size_answer(delivery, p, core, prs, memory.len())
 }
 
 // 1 to 4 of a record, for any memory of that size: any pointer in range adds nothing to what is asked.
 pub fn record_size_answer(registers: Registers, size: usize) -> u8
-    ensures { Answers-any result size (λ m. Questions.start-questions (delivery-of registers) (machine-of registers m)) }
+    ensures { AnswersAny result size (λ m. Questions.start_questions (delivery_of registers) (machine_of registers m)) }
 {
     let core = crate::record::core_of(registers);
     let prs = registers.prs;
@@ -195,7 +195,7 @@ pub fn record_size_answer(registers: Registers, size: usize) -> u8
 
 // 1 to 4 of a record and a memory.
 pub fn record_answer(registers: Registers, memory: &[u64]) -> u8
-    ensures { result ≡ Questions.start-questions (delivery-of registers) (machine-of registers memory.now) }
+    ensures { result ≡ Questions.start_questions (delivery_of registers) (machine_of registers memory.now) }
 {
     record_size_answer(registers, memory.len())
 }

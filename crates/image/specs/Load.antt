@@ -8,50 +8,50 @@ use Rattle.loading.specs.declared.Outcome.TheVariants as Outcome
 use Rattle.image.specs.declared.load.LoadOutcome.{LoadOutcome}
 use Rattle.image.specs.declared.load.LoadOutcome.TheVariants.{Refused, More, Ready}
 use Rattle.image.specs.declared.load.Loaded.{Loaded}
-use Rattle.loading.specs.View.{as-loading, Loading-within}
+use Rattle.loading.specs.View.{as_loading, LoadingWithin}
 use Rattle.loading.specs.Record.{Goes}
 
 -- l and m before the first record; `at` bytes are used, and k and its store are what they left
-pub record Loaded-so-far (l : Loading) (m bs : List ℕ) (e : Bool) (at : ℕ) (k : Loading) (m-now : List ℕ) : Type 0 where
+pub record LoadedSoFar (l : Loading) (m bs : List ℕ) (e : Bool) (at : ℕ) (k : Loading) (m_now : List ℕ) : Type 0 where
   pub in_bytes : at ≤ length bs
-  pub same_length : length m-now ≡ length m
-  pub within : Loading-within k m-now
-  pub goes : Goes (as-loading l m) bs e (Outcome.Next at) (as-loading k m-now)
+  pub same_length : length m_now ≡ length m
+  pub within : LoadingWithin k m_now
+  pub goes : Goes (as_loading l m) bs e (Outcome.Next at) (as_loading k m_now)
 
 -- a yes says that a whole WD record stands in front
-abbrev pub Word-if : Bool → (bytes : List ℕ) → Type 0
-Word-if true bs = (Image.mark_of bs ≡ some Image.WD) × (14 ≤ length bs)
-Word-if false bs = Unit {0}
+abbrev pub WordIf : Bool → (bytes : List ℕ) → Type 0
+WordIf true bs = (Image.mark_of bs ≡ some Image.WD) × (14 ≤ length bs)
+WordIf false bs = Unit {0}
 
 -- one WD record in front, or nothing changed
-pub record Word-loaded (l : Loading) (m bs : List ℕ) (n : ℕ) (m-now : List ℕ) : Type 0 where
+pub record WordLoaded (l : Loading) (m bs : List ℕ) (n : ℕ) (m_now : List ℕ) : Type 0 where
   pub in_bytes : n ≤ length bs
-  pub same_length : length m-now ≡ length m
-  pub within : Loading-within l m-now
-  pub goes : (e : Bool) → Goes (as-loading l m) bs e (Outcome.Next n) (as-loading l m-now)
+  pub same_length : length m_now ≡ length m
+  pub within : LoadingWithin l m_now
+  pub goes : (e : Bool) → Goes (as_loading l m) bs e (Outcome.Next n) (as_loading l m_now)
   pub some_bytes : (n ≡ 0 → ⊥) → 6 ≤ n
-  pub none-same : n ≡ 0 → m-now ≡ m
+  pub none_same : n ≡ 0 → m_now ≡ m
 
 -- WD records alone, whatever comes after them
-pub record Words-loaded (l : Loading) (m bs : List ℕ) (n : ℕ) (m-now : List ℕ) : Type 0 where
-  pub so_far : (e : Bool) → Loaded-so-far l m bs e n l m-now
+pub record WordsLoaded (l : Loading) (m bs : List ℕ) (n : ℕ) (m_now : List ℕ) : Type 0 where
+  pub so_far : (e : Bool) → LoadedSoFar l m bs e n l m_now
   pub some_bytes : (n ≡ 0 → ⊥) → 6 ≤ n
-  pub none-same : n ≡ 0 → m-now ≡ m
+  pub none_same : n ≡ 0 → m_now ≡ m
 
 -- records one after another are as one of all their bytes
-abbrev pub as-outcome : LoadOutcome → Outcome
-as-outcome (Refused n) = Outcome.Refused n
-as-outcome (More used) = Outcome.Next used
-as-outcome (Ready budget) = Outcome.Ready budget
+abbrev pub as_outcome : LoadOutcome → Outcome
+as_outcome (Refused n) = Outcome.Refused n
+as_outcome (More used) = Outcome.Next used
+as_outcome (Ready budget) = Outcome.Ready budget
 
 -- fewer than 66 bytes are left over
-abbrev pub Load-outcome-within : (bytes : List ℕ) → (ended : Bool) → Loading → LoadOutcome → Type 0
-Load-outcome-within bs e l (Refused n) = 1 ≤ n
-Load-outcome-within bs e l (More used) = (e ≡ false) × (used ≤ length bs) × (length bs - used < 66)
-Load-outcome-within bs e l (Ready budget) = (e ≡ true) × (l.has_memory ≡ true) × (l.has_registers ≡ true)
+abbrev pub LoadOutcomeWithin : (bytes : List ℕ) → (ended : Bool) → Loading → LoadOutcome → Type 0
+LoadOutcomeWithin bs e l (Refused n) = 1 ≤ n
+LoadOutcomeWithin bs e l (More used) = (e ≡ false) × (used ≤ length bs) × (length bs - used < 66)
+LoadOutcomeWithin bs e l (Ready budget) = (e ≡ true) × (l.has_memory ≡ true) × (l.has_registers ≡ true)
 
-pub record Loaded-as (l : Loading) (m bs : List ℕ) (e : Bool) (x : Loaded) (m-now : List ℕ) : Type 0 where
-  pub size_same : length m-now ≡ length m
-  pub within : Loading-within x.loading m-now
-  pub goes : Goes (as-loading l m) bs e (as-outcome x.outcome) (as-loading x.loading m-now)
-  pub outcome-within : Load-outcome-within bs e x.loading x.outcome
+pub record LoadedAs (l : Loading) (m bs : List ℕ) (e : Bool) (x : Loaded) (m_now : List ℕ) : Type 0 where
+  pub size_same : length m_now ≡ length m
+  pub within : LoadingWithin x.loading m_now
+  pub goes : Goes (as_loading l m) bs e (as_outcome x.outcome) (as_loading x.loading m_now)
+  pub outcome_within : LoadOutcomeWithin bs e x.loading x.outcome

@@ -1,6 +1,6 @@
 // Records one after another, until one is refused, the bytes don't hold a whole one, or RN has come.
-ghost use Rattle.loading.specs.View.{Loading-within};
-ghost use Rattle.image.specs.Load.{Loaded-as};
+ghost use Rattle.loading.specs.View.{LoadingWithin};
+ghost use Rattle.image.specs.Load.{LoadedAs};
 
 use crate::words::load_next;
 use loading::{Loading, Outcome, Recorded};
@@ -23,8 +23,8 @@ pub struct Loaded {
 
 // `ended`: no bytes come after these.
 pub fn load(loading: Loading, store: &mut [u64], bytes: &[u8], ended: bool) -> Loaded
-    requires { Loading-within loading store.old }
-    ensures { Loaded-as loading store.old bytes.now ended result store.new }
+    requires { LoadingWithin loading store.old }
+    ensures { LoadedAs loading store.old bytes.now ended result store.new }
 {
     let mut x = Recorded {
         loading,

@@ -1,7 +1,7 @@
 // An image that comes in pieces: what a buffer holds is loaded, and the start of a record that isn't whole yet is kept.
 ghost use Rattle.std.specs.Prelude.{◌≤◌, length, take};
-ghost use Rattle.loading.specs.View.{Loading-within};
-ghost use Rattle.image.specs.Piece.{Piece-loaded};
+ghost use Rattle.loading.specs.View.{LoadingWithin};
+ghost use Rattle.image.specs.Piece.{PieceLoaded};
 
 use crate::load::{LoadOutcome, Loaded};
 use buffers::move_down;
@@ -15,8 +15,8 @@ pub fn load_piece(
     size: usize,
     ended: bool,
 ) -> Loaded
-    requires { Loading-within loading store.old × (size ≤ length buffer.old) }
-    ensures { Piece-loaded loading store.old (take size buffer.old) ended result store.new buffer.new }
+    requires { LoadingWithin loading store.old × (size ≤ length buffer.old) }
+    ensures { PieceLoaded loading store.old (take size buffer.old) ended result store.new buffer.new }
 {
     let x = crate::load::load(loading, store, &buffer[..size], ended);
     let outcome = x.outcome;

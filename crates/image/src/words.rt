@@ -1,12 +1,12 @@
 // WD records one after another: what the records so far gave isn't carried from one to the next, since a WD changes the store alone.
-ghost use Rattle.loading.specs.Record.{Recorded-as};
-ghost use Rattle.loading.specs.View.{Loading-within};
-ghost use Rattle.image.specs.Load.{Word-if, Word-loaded, Words-loaded};
+ghost use Rattle.loading.specs.Record.{RecordedAs};
+ghost use Rattle.loading.specs.View.{LoadingWithin};
+ghost use Rattle.image.specs.Load.{WordIf, WordLoaded, WordsLoaded};
 
 use loading::{Loading, Outcome, Recorded};
 
 fn is_word(bytes: &[u8]) -> bool
-    ensures { Word-if result bytes.now }
+    ensures { WordIf result bytes.now }
 {
     if bytes.len() < 14 {
         return false;
@@ -16,8 +16,8 @@ fn is_word(bytes: &[u8]) -> bool
 
 // The bytes of a WD record in front that was loaded; 0 says nothing of the record there.
 fn load_front(loading: Loading, store: &mut [u64], bytes: &[u8]) -> usize
-    requires { Loading-within loading store.old }
-    ensures { Word-loaded loading store.old bytes.now result store.new }
+    requires { LoadingWithin loading store.old }
+    ensures { WordLoaded loading store.old bytes.now result store.new }
 {
     if !is_word(bytes) {
         return 0;
@@ -37,8 +37,8 @@ fn load_front(loading: Loading, store: &mut [u64], bytes: &[u8]) -> usize
 
 // So many bytes were WD records, and were loaded.
 fn load_words(loading: Loading, store: &mut [u64], bytes: &[u8]) -> usize
-    requires { Loading-within loading store.old }
-    ensures { Words-loaded loading store.old bytes.now result store.new }
+    requires { LoadingWithin loading store.old }
+    ensures { WordsLoaded loading store.old bytes.now result store.new }
 {
     let mut at = 0;
     loop {
@@ -52,8 +52,8 @@ fn load_words(loading: Loading, store: &mut [u64], bytes: &[u8]) -> usize
 
 // WD records in front, as one record of all their bytes, or else the record that stands there.
 pub fn load_next(loading: Loading, store: &mut [u64], bytes: &[u8], ended: bool) -> Recorded
-    requires { Loading-within loading store.old }
-    ensures { Recorded-as loading store.old bytes.now ended result store.new }
+    requires { LoadingWithin loading store.old }
+    ensures { RecordedAs loading store.old bytes.now ended result store.new }
 {
     let used = load_words(loading, store, bytes);
     if used != 0 {

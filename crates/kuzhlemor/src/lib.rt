@@ -1,19 +1,19 @@
 // The C library: a run and a step over a register record and a memory that the host lends, CALL's check over ones that are only read,
 // an image run whole, a stored one converted, a table for who may do what, descriptors of the old benches, and an image's needs.
 ghost use Rattle.std.specs.Prelude.{◌≡◌};
-ghost use Rattle.model.specs.Answers.{check-numbers};
+ghost use Rattle.model.specs.Answers.{check_numbers};
 ghost use Rattle.model.specs.Check.{check};
 ghost use Rattle.model.specs.Bench as Bench;
-ghost use Rattle.model.specs.Convert.{convert-call};
-ghost use Rattle.model.specs.Brackets.{set-brackets};
-ghost use Rattle.model.specs.Old.{from_old, to-old, convert-words};
-ghost use Rattle.model.specs.Needs.{image-needs};
-ghost use Rattle.host.specs.Record.{machine-of, delivery-of};
-ghost use Rattle.checks.specs.View.{as-numbers};
-ghost use Rattle.old.specs.View.{as-answer};
-ghost use Rattle.sizing.specs.View.{as-needs};
+ghost use Rattle.model.specs.Convert.{convert_call};
+ghost use Rattle.model.specs.Brackets.{set_brackets};
+ghost use Rattle.model.specs.Old.{from_old, to_old, convert_words};
+ghost use Rattle.model.specs.Needs.{image_needs};
+ghost use Rattle.host.specs.Record.{machine_of, delivery_of};
+ghost use Rattle.checks.specs.View.{as_numbers};
+ghost use Rattle.old.specs.View.{as_answer};
+ghost use Rattle.sizing.specs.View.{as_needs};
 ghost use Rattle.tables.specs.View.{as_rows, base};
-ghost use Rattle.kuzhlemor.specs.Entry.{Run-says, Step-says};
+ghost use Rattle.kuzhlemor.specs.Entry.{RunSays, StepSays};
 
 use checks::Check;
 use entry::Answer;
@@ -25,7 +25,7 @@ pub extern "C" fn kuzhlemor_run(
     memory: &mut [u64],
     budget: u32,
 ) -> Answer
-    ensures { Run-says budget registers.old memory.old result registers.new memory.new }
+    ensures { RunSays budget registers.old memory.old result registers.new memory.new }
 {
     entry::call(registers, memory, budget, false)
 }
@@ -33,7 +33,7 @@ pub extern "C" fn kuzhlemor_run(
 // A single step answers as a run of that one step does, but for the pointer words of one that faults.
 #[unsafe(no_mangle)]
 pub extern "C" fn kuzhlemor_step(registers: &mut Registers, memory: &mut [u64]) -> Answer
-    ensures { Step-says registers.old memory.old result registers.new memory.new }
+    ensures { StepSays registers.old memory.old result registers.new memory.new }
 {
     entry::call(registers, memory, 1, true)
 }
@@ -47,7 +47,7 @@ pub extern "C" fn kuzhlemor_may_call(
     segment: u16,
     word: u16,
 ) -> Check
-    ensures { as-numbers result ≡ check-numbers (check (delivery-of registers.now) (machine-of registers.now memory.now) (record { ring = ring; segment = segment; word = word })) }
+    ensures { as_numbers result ≡ check_numbers (check (delivery_of registers.now) (machine_of registers.now memory.now) (record { ring = ring; segment = segment; word = word })) }
 {
     checks::may_call(*registers, memory, ring, segment, word)
 }
@@ -63,7 +63,7 @@ pub extern "C" fn kuzhlemor_bench(image: &[u8], text: &mut [u8]) -> i64
 // A stored image, converted where it stands: the question's number negated, or the new image's length.
 #[unsafe(no_mangle)]
 pub extern "C" fn kuzhlemor_convert(image: &mut [u8]) -> i64
-    ensures { (result ≡ (convert-call image.old).answer) × (image.new ≡ (convert-call image.old).buffer) }
+    ensures { (result ≡ (convert_call image.old).answer) × (image.new ≡ (convert_call image.old).buffer) }
 {
     calls::signed(conversion::convert(image))
 }
@@ -76,7 +76,7 @@ pub extern "C" fn kuzhlemor_set_brackets(
     dbr_length: u16,
     rows: &[[u16; 5]],
 ) -> u32
-    ensures { (result ≡ (set-brackets memory.old (base dbr_address dbr_length) (as_rows rows.now)).answer) × (memory.new ≡ (set-brackets memory.old (base dbr_address dbr_length) (as_rows rows.now)).memory) }
+    ensures { (result ≡ (set_brackets memory.old (base dbr_address dbr_length) (as_rows rows.now)).answer) × (memory.new ≡ (set_brackets memory.old (base dbr_address dbr_length) (as_rows rows.now)).memory) }
 {
     tables::set_brackets(memory, dbr_address, dbr_length, rows) as u32
 }
@@ -84,7 +84,7 @@ pub extern "C" fn kuzhlemor_set_brackets(
 // Descriptors of the old benches made into today's where they stand, all or nothing: number and index of the first that fails.
 #[unsafe(no_mangle)]
 pub extern "C" fn kuzhlemor_from_old(words: &mut [u64]) -> old::Answer
-    ensures { (as-answer result ≡ (convert-words from_old words.old).answer) × (words.new ≡ (convert-words from_old words.old).words) }
+    ensures { (as_answer result ≡ (convert_words from_old words.old).answer) × (words.new ≡ (convert_words from_old words.old).words) }
 {
     old::convert_words(words, false)
 }
@@ -92,7 +92,7 @@ pub extern "C" fn kuzhlemor_from_old(words: &mut [u64]) -> old::Answer
 // And back.
 #[unsafe(no_mangle)]
 pub extern "C" fn kuzhlemor_to_old(words: &mut [u64]) -> old::Answer
-    ensures { (as-answer result ≡ (convert-words to-old words.old).answer) × (words.new ≡ (convert-words to-old words.old).words) }
+    ensures { (as_answer result ≡ (convert_words to_old words.old).answer) × (words.new ≡ (convert_words to_old words.old).words) }
 {
     old::convert_words(words, true)
 }
@@ -100,7 +100,7 @@ pub extern "C" fn kuzhlemor_to_old(words: &mut [u64]) -> old::Answer
 // What an image will need, worked out from its records: the number of the question with a no, or 0 and the five figures.
 #[unsafe(no_mangle)]
 pub extern "C" fn kuzhlemor_needs(image: &[u8]) -> sizing::Needs
-    ensures { as-needs result ≡ image-needs image.now }
+    ensures { as_needs result ≡ image_needs image.now }
 {
     sizing::needs_in(image)
 }

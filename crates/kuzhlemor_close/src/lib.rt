@@ -1,12 +1,12 @@
 // The C library with sixteen descriptor records that the host lends (02, L7): a run and a step.
 ghost use Rattle.std.specs.Prelude.{cond, true, false, ◌≡◌, ◌+◌, ◌^◌, ◌<◌, eqb};
-ghost use Rattle.model.specs.Questions.{ask, start-questions};
-ghost use Rattle.state.specs.Reply.{Reply-within};
+ghost use Rattle.model.specs.Questions.{ask, start_questions};
+ghost use Rattle.state.specs.Reply.{ReplyWithin};
 ghost use Rattle.state.specs.declared.reply.Reply.TheVariants as Reply;
-ghost use Rattle.state.specs.View.{as-machine, as-delivery};
-ghost use Rattle.host.specs.Record.{In-record};
-ghost use Rattle.answers.specs.Answer.{Answers-with, Answer-fits};
-ghost use Rattle.kuzhlemor_close.specs.Entry.{Runs-close, Close-says, Core-from, Fields-of};
+ghost use Rattle.state.specs.View.{as_machine, as_delivery};
+ghost use Rattle.host.specs.Record.{InRecord};
+ghost use Rattle.answers.specs.Answer.{AnswersWith, AnswerFits};
+ghost use Rattle.kuzhlemor_close.specs.Entry.{RunsClose, CloseSays, CoreFrom, FieldsOf};
 
 use answers::Answered;
 use entry::Answer;
@@ -19,7 +19,7 @@ use words::pointer::{SegmentNumber, WordNumber};
 
 // 63: are sixteen records lent? Then 1 to 4.
 fn first_no(count: usize, delivery: Delivery, core: Core, prs: &[u16; 24], memory: &[u64]) -> u8
-    ensures { result ≡ ask (eqb count 16) 63 (start-questions (as-delivery delivery) (as-machine core prs.now memory.now)) }
+    ensures { result ≡ ask (eqb count 16) 63 (start_questions (as_delivery delivery) (as_machine core prs.now memory.now)) }
 {
     if count != 16 {
         return 63;
@@ -33,15 +33,15 @@ fn first_no(count: usize, delivery: Delivery, core: Core, prs: &[u16; 24], memor
 }
 
 fn refused(n: u8, core: Core) -> Answered
-    ensures { Answers-with (Reply.Refused n) core 0 result }
+    ensures { AnswersWith (Reply.Refused n) core 0 result }
 {
     answers::answer_of(Reply::Refused(n), core, 0)
 }
 
 // A run that has ended: its reply, and its pointer words as a run or as a single step.
 fn finished(x: Pending, single: bool) -> Answered
-    requires { Reply-within x.reply × (x.total + x.read < 2 ^ 64) }
-    ensures { Answers-with x.reply x.core (cond single (x.total + x.read) x.total) result }
+    requires { ReplyWithin x.reply × (x.total + x.read < 2 ^ 64) }
+    ensures { AnswersWith x.reply x.core (cond single (x.total + x.read) x.total) result }
 {
     let reply = x.reply;
     let core = x.core;
@@ -58,7 +58,7 @@ fn run(
     budget: u32,
     single: bool,
 ) -> Answered
-    ensures { Runs-close (as-delivery delivery) single budget core prs.old memory.old records.old result prs.new memory.new records.new }
+    ensures { RunsClose (as_delivery delivery) single budget core prs.old memory.old records.old result prs.new memory.new records.new }
 {
     let n = first_no(records.len(), delivery, core, prs, memory);
     if n != 0 {
@@ -72,7 +72,7 @@ fn run(
 
 // A core of the host's fields.
 fn core_from(a: u64, dbr: DescriptorBase, ipr: Pointer) -> Core
-    ensures { Core-from a dbr ipr result }
+    ensures { CoreFrom a dbr ipr result }
 {
     Core {
         a,
@@ -91,8 +91,8 @@ struct Fields {
 }
 
 fn fields_of(x: Answered) -> Fields
-    requires { Answer-fits x × In-record x.core }
-    ensures { Fields-of x result }
+    requires { AnswerFits x × InRecord x.core }
+    ensures { FieldsOf x result }
 {
     Fields {
         answer: Answer {
@@ -116,7 +116,7 @@ fn call(
     budget: u32,
     single: bool,
 ) -> Answer
-    ensures { Close-says single budget registers.old memory.old records.old result registers.new memory.new records.new }
+    ensures { CloseSays single budget registers.old memory.old records.old result registers.new memory.new records.new }
 {
     let a = registers.a;
     let dbr = registers.dbr;
@@ -146,7 +146,7 @@ pub extern "C" fn kuzhlemor_run_close(
     records: &mut [Record],
     budget: u32,
 ) -> Answer
-    ensures { Close-says false budget registers.old memory.old records.old result registers.new memory.new records.new }
+    ensures { CloseSays false budget registers.old memory.old records.old result registers.new memory.new records.new }
 {
     call(registers, memory, records, budget, false)
 }
@@ -158,7 +158,7 @@ pub extern "C" fn kuzhlemor_step_close(
     memory: &mut [u64],
     records: &mut [Record],
 ) -> Answer
-    ensures { Close-says true 1 registers.old memory.old records.old result registers.new memory.new records.new }
+    ensures { CloseSays true 1 registers.old memory.old records.old result registers.new memory.new records.new }
 {
     call(registers, memory, records, 1, true)
 }

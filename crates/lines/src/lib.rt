@@ -1,7 +1,7 @@
 // The line of a completed step.
 ghost use Rattle.std.specs.Prelude.{◌≡◌, ◌≤◌, ◌<◌, ◌+◌, length, take};
 ghost use Rattle.model.specs.Listing.{step_line};
-ghost use Rattle.words.specs.View.{as_pointer, Pointer-within};
+ghost use Rattle.words.specs.View.{as_pointer, PointerWithin};
 ghost use Rattle.text.specs.Text.{placed, Put};
 ghost use Rattle.lines.specs.Kept.{Kept};
 
@@ -68,7 +68,7 @@ fn put_tens(text: &mut [u8], at: usize, tens: &[u8; 10], width: usize) -> usize
 
 // A step's line from the last digit of its number on, which is the line of a step of that number.
 fn put_last_digit(text: &mut [u8], at: usize, ones: u64, p: Pointer, pointers: u64) -> usize
-    requires { (at + 27 ≤ length text.old) × (ones ≤ 9) × Pointer-within p × (pointers ≤ 64) }
+    requires { (at + 27 ≤ length text.old) × (ones ≤ 9) × PointerWithin p × (pointers ≤ 64) }
     ensures { Put 22 at (step_line ones (record { ipr = as_pointer p; pointers = pointers })) text.old text.new result }
 {
     let at_ring = put_digit(text, at, ones, 32);
@@ -85,7 +85,7 @@ pub fn put_step_line(
     p: Pointer,
     pointers: u64,
 ) -> usize
-    requires { (at + 64 ≤ length text.old) × Kept tens.now n × Pointer-within p × (pointers ≤ 64) }
+    requires { (at + 64 ≤ length text.old) × Kept tens.now n × PointerWithin p × (pointers ≤ 64) }
     ensures { Put 64 at (step_line n.value (record { ipr = as_pointer p; pointers = pointers })) text.old text.new result }
 {
     put_tens(text, at, tens, n.width);

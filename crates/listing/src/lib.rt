@@ -1,8 +1,8 @@
 // A listing, a chunk of steps at a time, as many lines as a text has room for.
 ghost use Rattle.std.specs.Prelude.{◌≡◌, ◌+◌, ◌*◌, ◌≤◌, ◌<◌, min, length};
-ghost use Rattle.model.specs.Questions.{start-questions};
-ghost use Rattle.state.specs.View.{as-machine, as-delivery};
-ghost use Rattle.listing.specs.Lines.{Lines-written, Whole-listing};
+ghost use Rattle.model.specs.Questions.{start_questions};
+ghost use Rattle.state.specs.View.{as_machine, as_delivery};
+ghost use Rattle.listing.specs.Lines.{LinesWritten, WholeListing};
 
 use chunks::Line;
 use state::reply::Reply;
@@ -40,8 +40,8 @@ pub fn list(
     budget: u32,
     text: &mut [u8],
 ) -> Listed
-    requires { (start-questions (as-delivery delivery) (as-machine core prs.old memory.old) ≡ 0) × (count ≤ budget) × (total ≤ 64 * count) }
-    ensures { Lines-written (as-delivery delivery) (as-machine core prs.old memory.old) count total budget text.old result (as-machine result.line.core prs.new memory.new) text.new }
+    requires { (start_questions (as_delivery delivery) (as_machine core prs.old memory.old) ≡ 0) × (count ≤ budget) × (total ≤ 64 * count) }
+    ensures { LinesWritten (as_delivery delivery) (as_machine core prs.old memory.old) count total budget text.old result (as_machine result.line.core prs.new memory.new) text.new }
 {
     let mut x = Line {
         core,
@@ -91,8 +91,8 @@ pub fn list_whole(
     budget: u32,
     text: &mut [u8],
 ) -> usize
-    requires { (start-questions (as-delivery delivery) (as-machine core prs memory.old) ≡ 0) × (64 * (budget + 1) ≤ length text.old) }
-    ensures { Whole-listing (as-delivery delivery) budget (as-machine core prs memory.old) text.old result text.new }
+    requires { (start_questions (as_delivery delivery) (as_machine core prs memory.old) ≡ 0) × (64 * (budget + 1) ≤ length text.old) }
+    ensures { WholeListing (as_delivery delivery) budget (as_machine core prs memory.old) text.old result text.new }
 {
     let mut own = prs;
     let x = list(delivery, core, &mut own, memory, 0, 0, budget, text);

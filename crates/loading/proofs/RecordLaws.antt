@@ -11,288 +11,288 @@ use lib.ListN.{length, take, drop, set, length-set, length-replicate, take-appen
 use lib.Seq.{length-take-le, take-set-lt, drop-set-lt, take-take}
 use borrow.Author.Tests.{not-true, not-false, lt-ltb, le-ltb, leb-true, le-leb, lt-leb}
 use Rattle.model.specs.Questions.{ask}
-use Rattle.model.specs.Run.{unless-refused}
+use Rattle.model.specs.Run.{unless_refused}
 use Rattle.model.specs.Image as Image
-use Rattle.model.specs.Image.{Mark, ME, ST, WD, RN, mark_of, start-size, record-size, number_at, delivery-at, has, memory-of, or_else, in_order, memory-allowed, address-allowed, unless-written, address-new, record-questions, with-written, words-with, with-word, with-record, record-on, whole-record-on, image-after}
-use Rattle.formats.proofs.ImageLaws.{record-has-a-mark, image-is-records, number-at-front}
-use Rattle.model.proofs.BranchLaws.{cond-holds}
-use Rattle.fields.proofs.MarkLaws.{mark-of-record}
-use Rattle.addresses.specs.Set.{in-set}
+use Rattle.model.specs.Image.{Mark, ME, ST, WD, RN, mark_of, start_size, record_size, number_at, delivery_at, has, memory_of, or_else, in_order, memory_allowed, address_allowed, unless_written, address_new, record_questions, with_written, words_with, with_word, with_record, record_on, whole_record_on, image_after}
+use Rattle.formats.proofs.ImageLaws.{record_has_a_mark, image_is_records, number_at_front}
+use Rattle.model.proofs.BranchLaws.{cond_holds}
+use Rattle.fields.proofs.MarkLaws.{mark_of_record}
+use Rattle.addresses.specs.Set.{in_set}
 use Rattle.loading.specs.declared.Loading.{Loading}
 use Rattle.loading.specs.declared.Outcome.{Outcome}
 use Rattle.loading.specs.declared.Outcome.TheVariants.{Refused, Next}
-use Rattle.loading.specs.View.{rules-of, keeps-words, memory-in, set-in, rules-in, as-loading, Store-sized, Memory-within, Loading-within}
-use Rattle.loading.specs.Record.{outcome-image, Goes, Outcome-within, Asked-51, word-put, word-outcome, Word-taken, Recorded-in-store}
+use Rattle.loading.specs.View.{rules_of, keeps_words, memory_in, set_in, rules_in, as_loading, StoreSized, MemoryWithin, LoadingWithin}
+use Rattle.loading.specs.Record.{outcome_image, Goes, OutcomeWithin, Asked51, word_put, word_outcome, WordTaken, RecordedInStore}
 
 -- A WHOLE RECORD is judged by its own bytes
-front-and-rest : (n : ℕ) (bs rest : List ℕ) → bs ++ rest ≡ take n bs ++ (drop n bs ++ rest)
-front-and-rest n bs rest = ap (λ xs. xs ++ rest) (sym (take-append-drop n bs)) ∙ append_assoc (take n bs) (drop n bs) rest
+front_and_rest : (n : ℕ) (bs rest : List ℕ) → bs ++ rest ≡ take n bs ++ (drop n bs ++ rest)
+front_and_rest n bs rest = ap (λ xs. xs ++ rest) (sym (take-append-drop n bs)) ∙ append_assoc (take n bs) (drop n bs) rest
 
-module _ (k : Mark) (l : Image.Loading) (bs : List ℕ) (is-marked : mark_of bs ≡ some k) (whole : record-size l.rules k ≤ length bs) where
-  pub record-at-front : (rest : List ℕ) → let after = drop (record-size l.rules k) bs ++ rest in
-      image-after l (bs ++ rest) ≡ whole-record-on k l (length after) (take (record-size l.rules k) bs) (λ j. image-after j after)
-  record-at-front rest =
-      let n = record-size l.rules k in
-      ap (image-after l) (front-and-rest n bs rest)
-      ∙ image-is-records k l (take n bs) (drop n bs ++ rest) (mark-of-record n bs (record-has-a-mark l.rules k) ∙ is-marked) (length-take-le n bs whole)
+module _ (k : Mark) (l : Image.Loading) (bs : List ℕ) (is_marked : mark_of bs ≡ some k) (whole : record_size l.rules k ≤ length bs) where
+  pub record_at_front : (rest : List ℕ) → let after = drop (record_size l.rules k) bs ++ rest in
+      image_after l (bs ++ rest) ≡ whole_record_on k l (length after) (take (record_size l.rules k) bs) (λ j. image_after j after)
+  record_at_front rest =
+      let n = record_size l.rules k in
+      ap (image_after l) (front_and_rest n bs rest)
+      ∙ image_is_records k l (take n bs) (drop n bs ++ rest) (mark_of_record n bs (record_has_a_mark l.rules k) ∙ is_marked) (length-take-le n bs whole)
 
-pub number-in-record : (size a n : ℕ) (bs : List ℕ) → size ≤ length bs → a + n ≤ size → number_at a n (take size bs) ≡ number_at a n bs
-number-in-record size a n bs h g =
-    sym (number-at-front (take size bs) (drop size bs) a n (let y = length-take-le size bs h in omega arith)) ∙ ap (number_at a n) (take-append-drop size bs)
+pub number_in_record : (size a n : ℕ) (bs : List ℕ) → size ≤ length bs → a + n ≤ size → number_at a n (take size bs) ≡ number_at a n bs
+number_in_record size a n bs h g =
+    sym (number_at_front (take size bs) (drop size bs) a n (let y = length-take-le size bs h in omega arith)) ∙ ap (number_at a n) (take-append-drop size bs)
 
 -- BY A STORE WITHOUT MEMORY an image is read as by today's rules, but for its words
 module _ {A : Type 0} (f : Image.Rules → A) (same : f Image.sizing ≡ f Image.today) where
-  by-rules : (v : Bool) (m : List ℕ) → f (rules-in v m) ≡ f (rules-of v)
-  unfolding rules-in rules-of
-  by-rules true m = refl
-  by-rules false m = cond-holds (λ r. f r ≡ f Image.today) (keeps-words m) (λ _. refl) (λ _. same)
+  by_rules : (v : Bool) (m : List ℕ) → f (rules_in v m) ≡ f (rules_of v)
+  unfolding rules_in rules_of
+  by_rules true m = refl
+  by_rules false m = cond_holds (λ r. f r ≡ f Image.today) (keeps_words m) (λ _. refl) (λ _. same)
 
-pub size_in : (v : Bool) (m : List ℕ) (k : Mark) → record-size (rules-in v m) k ≡ record-size (rules-of v) k
-size_in v m k = by-rules (λ r. record-size r k) (alike k) v m
+pub size_in : (v : Bool) (m : List ℕ) (k : Mark) → record_size (rules_in v m) k ≡ record_size (rules_of v) k
+size_in v m k = by_rules (λ r. record_size r k) (alike k) v m
   where
-    alike : (k : Mark) → record-size Image.sizing k ≡ record-size Image.today k
-    alike ME = unfold record-size in refl
-    alike ST = unfold record-size start-size in refl
-    alike WD = unfold record-size in refl
-    alike RN = unfold record-size in refl
+    alike : (k : Mark) → record_size Image.sizing k ≡ record_size Image.today k
+    alike ME = unfold record_size in refl
+    alike ST = unfold record_size start_size in refl
+    alike WD = unfold record_size in refl
+    alike RN = unfold record_size in refl
 
-pub delivery-in : (v : Bool) (m bs : List ℕ) → delivery-at (rules-in v m) bs ≡ delivery-at (rules-of v) bs
-delivery-in v m bs = by-rules (λ r. delivery-at r bs) (unfold delivery-at in refl) v m
+pub delivery_in : (v : Bool) (m bs : List ℕ) → delivery_at (rules_in v m) bs ≡ delivery_at (rules_of v) bs
+delivery_in v m bs = by_rules (λ r. delivery_at r bs) (unfold delivery_at in refl) v m
 
-unless-in : (v : Bool) (m : List ℕ) (w : Bool) → unless-written (rules-in v m) w ≡ unless-written (rules-of v) w
-unless-in v m w = by-rules (λ r. unless-written r w) (unfold unless-written in refl) v m
+unless_in : (v : Bool) (m : List ℕ) (w : Bool) → unless_written (rules_in v m) w ≡ unless_written (rules_of v) w
+unless_in v m w = by_rules (λ r. unless_written r w) (unfold unless_written in refl) v m
 
-with_in : (v : Bool) (m : List ℕ) (a : ℕ) (w : ℕ → Bool) → with-written (rules-in v m) a w ≡ with-written (rules-of v) a w
-with_in v m a w = by-rules (λ r. with-written r a w) (unfold with-written in refl) v m
+with_in : (v : Bool) (m : List ℕ) (a : ℕ) (w : ℕ → Bool) → with_written (rules_in v m) a w ≡ with_written (rules_of v) a w
+with_in v m a w = by_rules (λ r. with_written r a w) (unfold with_written in refl) v m
 
 -- WHAT IS LENT
-module _ (b : Bool) (n : ℕ) (m : List ℕ) (z : Memory-within b n m) (h : b ≡ true) where
-  pub words-within : n ≤ 8192
-  unfolding Memory-within
-  words-within = rw h at z
+module _ (b : Bool) (n : ℕ) (m : List ℕ) (z : MemoryWithin b n m) (h : b ≡ true) where
+  pub words_within : n ≤ 8192
+  unfolding MemoryWithin
+  words_within = rw h at z
 
-  pub within-still : (m-now : List ℕ) → Memory-within b n m-now
-  unfolding Memory-within
-  within-still m-now = rw h words-within
+  pub within_still : (m_now : List ℕ) → MemoryWithin b n m_now
+  unfolding MemoryWithin
+  within_still m_now = rw h words_within
 
-  pub address-within : (a : ℕ) → a < n → a < 8192
-  address-within a g = let y = words-within in omega arith
+  pub address_within : (a : ℕ) → a < n → a < 8192
+  address_within a g = let y = words_within in omega arith
 
-module _ (v : Bool) (m : List ℕ) (s : Store-sized v (length m)) where
-  pub has-set : 128 ≤ length m
-  unfolding Store-sized
-  has-set = by_size s
+module _ (v : Bool) (m : List ℕ) (s : StoreSized v (length m)) where
+  pub has_set : 128 ≤ length m
+  unfolding StoreSized
+  has_set = by_size s
     where
       by_size : (length m ≡ 8320) ⊎ ((length m ≡ 128) × (v ≡ false)) → 128 ≤ length m
       by_size (inl e) = omega arith
       by_size (inr e) = let q = e.0 in omega arith
 
-  pub still-sized : (m-now : List ℕ) → length m-now ≡ length m → Store-sized v (length m-now)
-  still-sized m-now e = subst (Store-sized v) (sym e) s
+  pub still_sized : (m_now : List ℕ) → length m_now ≡ length m → StoreSized v (length m_now)
+  still_sized m_now e = subst (StoreSized v) (sym e) s
 
-pub memory-length : (n : ℕ) (m : List ℕ) → n ≤ 8192 → length (memory-in n m) ≡ n
-unfolding memory-in keeps-words
-memory-length n m h =
-    cond-holds (λ (ws : List ℕ). length ws ≡ n) (leb 8320 (length m)) (λ e. length-take-le n m (let y = leb-true 8320 (length m) e in omega arith))
+pub memory_length : (n : ℕ) (m : List ℕ) → n ≤ 8192 → length (memory_in n m) ≡ n
+unfolding memory_in keeps_words
+memory_length n m h =
+    cond_holds (λ (ws : List ℕ). length ws ≡ n) (leb 8320 (length m)) (λ e. length-take-le n m (let y = leb-true 8320 (length m) e in omega arith))
     (λ _. length-replicate {A = ℕ} n 0)
 
 -- what 51 was asked of has its size still
-module _ (v : Image.Rules) (a : ℕ) (m : List ℕ) (answer : Bool) (m-asked : List ℕ) (asked : Asked-51 v a m answer m-asked) where
-  pub asked-sized : (b : Bool) → Store-sized b (length m) → Store-sized b (length m-asked)
-  asked-sized b s = subst (Store-sized b) (sym asked.size_same) s
+module _ (v : Image.Rules) (a : ℕ) (m : List ℕ) (answer : Bool) (m_asked : List ℕ) (asked : Asked51 v a m answer m_asked) where
+  pub asked_sized : (b : Bool) → StoreSized b (length m) → StoreSized b (length m_asked)
+  asked_sized b s = subst (StoreSized b) (sym asked.size_same) s
 
-  pub asked-kept : answer ≡ false → m-asked ≡ m
-  asked-kept e = asked.kept e
+  pub asked_kept : answer ≡ false → m_asked ≡ m
+  asked_kept e = asked.kept e
 
-put-length : (a w : ℕ) (m : List ℕ) → length (word-put a w m) ≡ length m
-unfolding word-put
-put-length a w m = cond-holds (λ (xs : List ℕ). length xs ≡ length m) (ltb 128 (length m)) (λ _. length-set m a w) (λ _. refl)
+put_length : (a w : ℕ) (m : List ℕ) → length (word_put a w m) ≡ length m
+unfolding word_put
+put_length a w m = cond_holds (λ (xs : List ℕ). length xs ≡ length m) (ltb 128 (length m)) (λ _. length-set m a w) (λ _. refl)
 
-pub put-size : (v : Image.Rules) (a w : ℕ) (m : List ℕ) (answer : Bool) (m-asked m-now : List ℕ) → Asked-51 v a m answer m-asked → m-now ≡ word-put a w m-asked →
-    length m-now ≡ length m
-put-size v a w m answer m-asked m-now asked e = ap length e ∙ put-length a w m-asked ∙ asked.size_same
+pub put_size : (v : Image.Rules) (a w : ℕ) (m : List ℕ) (answer : Bool) (m_asked m_now : List ℕ) → Asked51 v a m answer m_asked → m_now ≡ word_put a w m_asked →
+    length m_now ≡ length m
+put_size v a w m answer m_asked m_now asked e = ap length e ∙ put_length a w m_asked ∙ asked.size_same
 
 module _ (a w : ℕ) (m : List ℕ) where
-  pub put-inside : 128 < length m → set m a w ≡ word-put a w m
-  unfolding word-put
-  put-inside h = rw (lt-ltb 128 (length m) h) refl
+  pub put_inside : 128 < length m → set m a w ≡ word_put a w m
+  unfolding word_put
+  put_inside h = rw (lt-ltb 128 (length m) h) refl
 
-  pub put-nowhere : length m ≤ 128 → m ≡ word-put a w m
-  unfolding word-put
-  put-nowhere h = rw (le-ltb 128 (length m) h) refl
+  pub put_nowhere : length m ≤ 128 → m ≡ word_put a w m
+  unfolding word_put
+  put_nowhere h = rw (le-ltb 128 (length m) h) refl
 
 -- a store with more than the set has all of memory
-pub inside-store : (v : Bool) (m : List ℕ) (a : ℕ) → Store-sized v (length m) → 128 < length m → a < 8192 → a < length m
-unfolding Store-sized
-inside-store v m a s h g = by_size s
+pub inside_store : (v : Bool) (m : List ℕ) (a : ℕ) → StoreSized v (length m) → 128 < length m → a < 8192 → a < length m
+unfolding StoreSized
+inside_store v m a s h g = by_size s
   where
     by_size : (length m ≡ 8320) ⊎ ((length m ≡ 128) × (v ≡ false)) → a < length m
     by_size (inl e) = omega arith
     by_size (inr e) = absurd (let q = e.0 in omega arith)
 
-pub ruleset puts = (put-inside, put-nowhere, inside-store)
+pub ruleset puts = (put_inside, put_nowhere, inside_store)
 
 -- A WORD PUT is the model's, by either store
-record Put-as (v : Bool) (n a w : ℕ) (m m-next : List ℕ) : Type 0 where
-  rules-next : rules-in v m-next ≡ rules-in v m
-  memory-next : memory-in n m-next ≡ words-with (rules-in v m) a w (memory-in n m)
-  set_next : in-set (set-in m-next) ≡ with-written (rules-in v m) a (in-set (set-in m))
+record PutAs (v : Bool) (n a w : ℕ) (m m_next : List ℕ) : Type 0 where
+  rules_next : rules_in v m_next ≡ rules_in v m
+  memory_next : memory_in n m_next ≡ words_with (rules_in v m) a w (memory_in n m)
+  set_next : in_set (set_in m_next) ≡ with_written (rules_in v m) a (in_set (set_in m))
 
-rules-by-length : (v : Bool) (m m-next : List ℕ) → length m-next ≡ length m → rules-in v m-next ≡ rules-in v m
-unfolding rules-in keeps-words
-rules-by-length true m m-next e = refl
-rules-by-length false m m-next e = ap (λ k. cond (leb 8320 k) Image.today Image.sizing) e
+rules_by_length : (v : Bool) (m m_next : List ℕ) → length m_next ≡ length m → rules_in v m_next ≡ rules_in v m
+unfolding rules_in keeps_words
+rules_by_length true m m_next e = refl
+rules_by_length false m m_next e = ap (λ k. cond (leb 8320 k) Image.today Image.sizing) e
 
-set-with-memory : (v : Bool) (m : List ℕ) (a w : ℕ) (xs : List ℕ) → leb 8320 (length m) ≡ true → words-with (rules-in v m) a w xs ≡ set xs a w
-unfolding rules-in keeps-words words-with
-set-with-memory true m a w xs e = refl
-set-with-memory false m a w xs e = rw e refl
+set_with_memory : (v : Bool) (m : List ℕ) (a w : ℕ) (xs : List ℕ) → leb 8320 (length m) ≡ true → words_with (rules_in v m) a w xs ≡ set xs a w
+unfolding rules_in keeps_words words_with
+set_with_memory true m a w xs e = refl
+set_with_memory false m a w xs e = rw e refl
 
-module _ (v : Bool) (n a w : ℕ) (m m-asked : List ℕ) (asked : Asked-51 (rules-of v) a m true m-asked) (g : a < n) (h : n ≤ 8192) where
-  put-with-memory : length m ≡ 8320 → Put-as v n a w m (word-put a w m-asked)
-  unfolding memory-in keeps-words set-in word-put
-  put-with-memory e =
+module _ (v : Bool) (n a w : ℕ) (m m_asked : List ℕ) (asked : Asked51 (rules_of v) a m true m_asked) (g : a < n) (h : n ≤ 8192) where
+  put_with_memory : length m ≡ 8320 → PutAs v n a w m (word_put a w m_asked)
+  unfolding memory_in keeps_words set_in word_put
+  put_with_memory e =
       record {
-        rules-next = rules-by-length v m _ long;
-        memory-next =
-            rw (← put, kept-now, kept) (take-set-lt n m-asked a w g ∙ ap (λ xs. set xs a w) front ∙ sym (set-with-memory v m a w (take n m) kept));
-        set_next = ap in-set the_end ∙ asked.set-now refl ∙ sym (with_in v m a (in-set (set-in m)));
+        rules_next = rules_by_length v m _ long;
+        memory_next =
+            rw (← put, kept_now, kept) (take-set-lt n m_asked a w g ∙ ap (λ xs. set xs a w) front ∙ sym (set_with_memory v m a w (take n m) kept));
+        set_next = ap in_set the_end ∙ asked.set_now refl ∙ sym (with_in v m a (in_set (set_in m)));
       }
     where
-      long : length (word-put a w m-asked) ≡ length m
-      long = put-length a w m-asked ∙ asked.size_same
+      long : length (word_put a w m_asked) ≡ length m
+      long = put_length a w m_asked ∙ asked.size_same
 
-      put : set m-asked a w ≡ word-put a w m-asked
-      put = put-inside a w m-asked (let y = asked.size_same in omega arith)
+      put : set m_asked a w ≡ word_put a w m_asked
+      put = put_inside a w m_asked (let y = asked.size_same in omega arith)
 
       kept : leb 8320 (length m) ≡ true
       kept = le-leb 8320 (length m) (omega arith)
 
-      kept-now : leb 8320 (length (set m-asked a w)) ≡ true
-      kept-now = le-leb 8320 (length (set m-asked a w)) (let y = length-set m-asked a w in let z = asked.size_same in omega arith)
+      kept_now : leb 8320 (length (set m_asked a w)) ≡ true
+      kept_now = le-leb 8320 (length (set m_asked a w)) (let y = length-set m_asked a w in let z = asked.size_same in omega arith)
 
-      front : take n m-asked ≡ take n m
-      front = sym (take-take n (length m - 128) m-asked (omega arith)) ∙ ap (take n) asked.memory-same ∙ take-take n (length m - 128) m (omega arith)
+      front : take n m_asked ≡ take n m
+      front = sym (take-take n (length m - 128) m_asked (omega arith)) ∙ ap (take n) asked.memory_same ∙ take-take n (length m - 128) m (omega arith)
 
-      the_end : set-in (word-put a w m-asked) ≡ set-in m-asked
+      the_end : set_in (word_put a w m_asked) ≡ set_in m_asked
       the_end =
-          ap set-in (sym put) ∙ ap (λ k. drop (k - 128) (set m-asked a w)) (length-set m-asked a w)
-          ∙ drop-set-lt (length m-asked - 128) m-asked a w (let y = asked.size_same in omega arith)
+          ap set_in (sym put) ∙ ap (λ k. drop (k - 128) (set m_asked a w)) (length-set m_asked a w)
+          ∙ drop-set-lt (length m_asked - 128) m_asked a w (let y = asked.size_same in omega arith)
 
-  put-without-memory : length m ≡ 128 → v ≡ false → Put-as v n a w m (word-put a w m-asked)
-  unfolding memory-in keeps-words rules-in words-with word-put
-  put-without-memory e f =
+  put_without_memory : length m ≡ 128 → v ≡ false → PutAs v n a w m (word_put a w m_asked)
+  unfolding memory_in keeps_words rules_in words_with word_put
+  put_without_memory e f =
       record {
-        rules-next = rules-by-length v m _ (put-length a w m-asked ∙ asked.size_same);
-        memory-next = rw (← put, kept-now, f, kept) refl;
-        set_next = ap (λ xs. in-set (set-in xs)) (sym put) ∙ asked.set-now refl ∙ sym (with_in v m a (in-set (set-in m)));
+        rules_next = rules_by_length v m _ (put_length a w m_asked ∙ asked.size_same);
+        memory_next = rw (← put, kept_now, f, kept) refl;
+        set_next = ap (λ xs. in_set (set_in xs)) (sym put) ∙ asked.set_now refl ∙ sym (with_in v m a (in_set (set_in m)));
       }
     where
-      put : m-asked ≡ word-put a w m-asked
-      put = put-nowhere a w m-asked (let y = asked.size_same in omega arith)
+      put : m_asked ≡ word_put a w m_asked
+      put = put_nowhere a w m_asked (let y = asked.size_same in omega arith)
 
       kept : leb 8320 (length m) ≡ false
       kept = lt-leb 8320 (length m) (omega arith)
 
-      kept-now : leb 8320 (length m-asked) ≡ false
-      kept-now = lt-leb 8320 (length m-asked) (let z = asked.size_same in omega arith)
+      kept_now : leb 8320 (length m_asked) ≡ false
+      kept_now = lt-leb 8320 (length m_asked) (let z = asked.size_same in omega arith)
 
-  put_as : Store-sized v (length m) → Put-as v n a w m (word-put a w m-asked)
-  unfolding Store-sized
+  put_as : StoreSized v (length m) → PutAs v n a w m (word_put a w m_asked)
+  unfolding StoreSized
   put_as s = by_size s
     where
-      by_size : (length m ≡ 8320) ⊎ ((length m ≡ 128) × (v ≡ false)) → Put-as v n a w m (word-put a w m-asked)
-      by_size (inl e) = put-with-memory e
-      by_size (inr e) = put-without-memory e.0 e.1
+      by_size : (length m ≡ 8320) ⊎ ((length m ≡ 128) × (v ≡ false)) → PutAs v n a w m (word_put a w m_asked)
+      by_size (inl e) = put_with_memory e
+      by_size (inr e) = put_without_memory e.0 e.1
 
 -- A RECORD IN FRONT, of so many bytes as the rules give it
-module _ (k : Mark) (x : Loading) (m bs : List ℕ) (is-marked : mark_of bs ≡ some k) (whole : record-size (rules-of x.is_stored) k ≤ length bs) where
-  pub loading-front : (rest : List ℕ) → let size = record-size (rules-of x.is_stored) k in
-      image-after (as-loading x m) (bs ++ rest)
-      ≡ whole-record-on k (as-loading x m) (length (drop size bs ++ rest)) (take size bs) (λ j. image-after j (drop size bs ++ rest))
-  unfolding as-loading
-  loading-front rest =
+module _ (k : Mark) (x : Loading) (m bs : List ℕ) (is_marked : mark_of bs ≡ some k) (whole : record_size (rules_of x.is_stored) k ≤ length bs) where
+  pub loading_front : (rest : List ℕ) → let size = record_size (rules_of x.is_stored) k in
+      image_after (as_loading x m) (bs ++ rest)
+      ≡ whole_record_on k (as_loading x m) (length (drop size bs ++ rest)) (take size bs) (λ j. image_after j (drop size bs ++ rest))
+  unfolding as_loading
+  loading_front rest =
       let v = x.is_stored in
-      record-at-front k (as-loading x m) bs is-marked (subst (λ n. n ≤ length bs) (sym (size_in v m k)) whole) rest
-      ∙ ap (λ n. whole-record-on k (as-loading x m) (length (drop n bs ++ rest)) (take n bs) (λ j. image-after j (drop n bs ++ rest))) (size_in v m k)
+      record_at_front k (as_loading x m) bs is_marked (subst (λ n. n ≤ length bs) (sym (size_in v m k)) whole) rest
+      ∙ ap (λ n. whole_record_on k (as_loading x m) (length (drop n bs ++ rest)) (take n bs) (λ j. image_after j (drop n bs ++ rest))) (size_in v m k)
 
 -- 42
-module _ (k : Mark) (x : Loading) (m bs : List ℕ) (e : Bool) (is-marked : mark_of bs ≡ some k) (whole : record-size (rules-of x.is_stored) k ≤ length bs) where
-  pub out_of_order : ((rest : List ℕ) → in_order k (as-loading x m) (length (drop (record-size (rules-of x.is_stored) k) bs ++ rest)) ≡ false) → Goes (as-loading x m) bs e (Refused 42) (as-loading x m)
-  unfolding Goes as-loading outcome-image whole-record-on record-questions ask unless-refused
-  out_of_order h rest _ = loading-front k x m bs is-marked whole rest ∙ rw (h rest)
+module _ (k : Mark) (x : Loading) (m bs : List ℕ) (e : Bool) (is_marked : mark_of bs ≡ some k) (whole : record_size (rules_of x.is_stored) k ≤ length bs) where
+  pub out_of_order : ((rest : List ℕ) → in_order k (as_loading x m) (length (drop (record_size (rules_of x.is_stored) k) bs ++ rest)) ≡ false) → Goes (as_loading x m) bs e (Refused 42) (as_loading x m)
+  unfolding Goes as_loading outcome_image whole_record_on record_questions ask unless_refused
+  out_of_order h rest _ = loading_front k x m bs is_marked whole rest ∙ rw (h rest)
 
 -- WD
-module _ (x : Loading) (m bs : List ℕ) (e : Bool) (is-marked : mark_of bs ≡ some WD) (whole : 14 ≤ length bs) where
-  pub wd-before-me : x.has_memory ≡ false → Goes (as-loading x m) bs e (Refused 42) (as-loading x m)
-  unfolding as-loading record-size in_order has
-  wd-before-me h = out_of_order WD x m bs e is-marked whole (λ rest. rw h)
+module _ (x : Loading) (m bs : List ℕ) (e : Bool) (is_marked : mark_of bs ≡ some WD) (whole : 14 ≤ length bs) where
+  pub wd_before_me : x.has_memory ≡ false → Goes (as_loading x m) bs e (Refused 42) (as_loading x m)
+  unfolding as_loading record_size in_order has
+  wd_before_me h = out_of_order WD x m bs e is_marked whole (λ rest. rw h)
 
-  module _ (h : x.has_memory ≡ true) (z : Memory-within x.has_memory x.words m) (a : ℕ) (q : a ≡ number_at 2 4 bs) where
+  module _ (h : x.has_memory ≡ true) (z : MemoryWithin x.has_memory x.words m) (a : ℕ) (q : a ≡ number_at 2 4 bs) where
     address : number_at 2 4 (take 14 bs) ≡ a
-    address = number-in-record 14 2 4 bs whole (omega arith) ∙ sym q
+    address = number_in_record 14 2 4 bs whole (omega arith) ∙ sym q
 
-    sized : length (memory-in x.words m) ≡ x.words
-    sized = memory-length x.words m (words-within _ _ m z h)
+    sized : length (memory_in x.words m) ≡ x.words
+    sized = memory_length x.words m (words_within _ _ m z h)
 
-    pub wd-outside : x.words ≤ a → Goes (as-loading x m) bs e (Refused 44) (as-loading x m)
-    unfolding Goes as-loading outcome-image record-size whole-record-on record-questions in_order memory-allowed address-allowed memory-of or_else ask has unless-refused
-    wd-outside g rest _ = loading-front WD x m bs is-marked whole rest ∙ rw (h, address, sized, le-ltb _ _ g)
+    pub wd_outside : x.words ≤ a → Goes (as_loading x m) bs e (Refused 44) (as_loading x m)
+    unfolding Goes as_loading outcome_image record_size whole_record_on record_questions in_order memory_allowed address_allowed memory_of or_else ask has unless_refused
+    wd_outside g rest _ = loading_front WD x m bs is_marked whole rest ∙ rw (h, address, sized, le-ltb _ _ g)
 
-    module _ (g : a < x.words) (answer : Bool) (m-asked : List ℕ) (asked : Asked-51 (rules-of x.is_stored) a m answer m-asked) where
-      may-be : unless-written (rules-in x.is_stored m) (in-set (set-in m) a) ≡ answer
-      may-be = unless-in x.is_stored m (in-set (set-in m) a) ∙ sym asked.answered
+    module _ (g : a < x.words) (answer : Bool) (m_asked : List ℕ) (asked : Asked51 (rules_of x.is_stored) a m answer m_asked) where
+      may_be : unless_written (rules_in x.is_stored m) (in_set (set_in m) a) ≡ answer
+      may_be = unless_in x.is_stored m (in_set (set_in m) a) ∙ sym asked.answered
 
-      pub wd-written : answer ≡ false → Goes (as-loading x m) bs e (Refused 51) (as-loading x m-asked)
-      unfolding Goes as-loading outcome-image record-size whole-record-on record-questions in_order memory-allowed address-allowed address-new memory-of or_else ask has unless-refused
-      wd-written n rest _ = loading-front WD x m bs is-marked whole rest ∙ rw (h, address, sized, lt-ltb _ _ g, may-be, n)
+      pub wd_written : answer ≡ false → Goes (as_loading x m) bs e (Refused 51) (as_loading x m_asked)
+      unfolding Goes as_loading outcome_image record_size whole_record_on record_questions in_order memory_allowed address_allowed address_new memory_of or_else ask has unless_refused
+      wd_written n rest _ = loading_front WD x m bs is_marked whole rest ∙ rw (h, address, sized, lt-ltb _ _ g, may_be, n)
 
-      pub wd-loaded : answer ≡ true → Store-sized x.is_stored (length m) → (v : ℕ) (m-now : List ℕ) → v ≡ number_at 6 8 bs → m-now ≡ word-put a v m-asked →
-          Goes (as-loading x m) bs e (Next 14) (as-loading x m-now)
-      unfolding Goes as-loading outcome-image record-size whole-record-on record-questions in_order memory-allowed address-allowed address-new record-on with-record with-word memory-of or_else ask has unless-refused
-      wd-loaded n s v m-now w put rest _ =
-          let word : number_at 6 8 (take 14 bs) ≡ v = number-in-record 14 6 8 bs whole (omega arith) ∙ sym w in
-          let p = put_as x.is_stored x.words a v m m-asked (subst (λ b. Asked-51 (rules-of x.is_stored) a m b m-asked) n asked) g (words-within _ _ m z h) s in
-          loading-front WD x m bs is-marked whole rest
-          ∙ rw (h, address, sized, lt-ltb _ _ g, may-be, n, word, put, p.rules-next, p.memory-next, p.set_next)
+      pub wd_loaded : answer ≡ true → StoreSized x.is_stored (length m) → (v : ℕ) (m_now : List ℕ) → v ≡ number_at 6 8 bs → m_now ≡ word_put a v m_asked →
+          Goes (as_loading x m) bs e (Next 14) (as_loading x m_now)
+      unfolding Goes as_loading outcome_image record_size whole_record_on record_questions in_order memory_allowed address_allowed address_new record_on with_record with_word memory_of or_else ask has unless_refused
+      wd_loaded n s v m_now w put rest _ =
+          let word : number_at 6 8 (take 14 bs) ≡ v = number_in_record 14 6 8 bs whole (omega arith) ∙ sym w in
+          let p = put_as x.is_stored x.words a v m m_asked (subst (λ b. Asked51 (rules_of x.is_stored) a m b m_asked) n asked) g (words_within _ _ m z h) s in
+          loading_front WD x m bs is_marked whole rest
+          ∙ rw (h, address, sized, lt-ltb _ _ g, may_be, n, word, put, p.rules_next, p.memory_next, p.set_next)
 
-pub ruleset word-loaded = (not-true, not-false, within-still, address-within, asked-sized, asked-kept, put-size, wd-before-me, wd-outside, wd-written, wd-loaded)
+pub ruleset word_loaded = (not-true, not-false, within_still, address_within, asked_sized, asked_kept, put_size, wd_before_me, wd_outside, wd_written, wd_loaded)
 
 -- A WD AS A RECORD
-module _ (l : Loading) (m bs : List ℕ) (n : ℕ) (m-now : List ℕ) (w : Word-taken l.is_stored l.has_memory l.words m bs n m-now) (within : Loading-within l m) where
-  pub within-now : Loading-within l m-now
-  within-now = record { sized = still-sized l.is_stored m within.sized m-now w.size_same; memory-within = w.memory-within }
+module _ (l : Loading) (m bs : List ℕ) (n : ℕ) (m_now : List ℕ) (w : WordTaken l.is_stored l.has_memory l.words m bs n m_now) (within : LoadingWithin l m) where
+  pub within_now : LoadingWithin l m_now
+  within_now = record { sized = still_sized l.is_stored m within.sized m_now w.size_same; memory_within = w.memory_within }
 
-  pub goes-now : (o : Outcome) → word-outcome n ≡ o → (e : Bool) → Goes (as-loading l m) bs e o (as-loading l m-now)
-  unfolding as-loading
-  goes-now o q e = subst (λ a. Goes (as-loading l m) bs e a (as-loading l m-now)) q (w.goes l.has_registers l.registers e)
+  pub goes_now : (o : Outcome) → word_outcome n ≡ o → (e : Bool) → Goes (as_loading l m) bs e o (as_loading l m_now)
+  unfolding as_loading
+  goes_now o q e = subst (λ a. Goes (as_loading l m) bs e a (as_loading l m_now)) q (w.goes l.has_registers l.registers e)
 
-  pub goes-refused : (n ≡ 0 → ⊥) → (e : Bool) → Goes (as-loading l m) bs e (Refused n) (as-loading l m-now)
-  unfolding word-outcome
-  goes-refused h e = goes-now (Refused n) (by_number n h) e
+  pub goes_refused : (n ≡ 0 → ⊥) → (e : Bool) → Goes (as_loading l m) bs e (Refused n) (as_loading l m_now)
+  unfolding word_outcome
+  goes_refused h e = goes_now (Refused n) (by_number n h) e
     where
-      by_number : (k : ℕ) → (k ≡ 0 → ⊥) → word-outcome k ≡ Refused k
+      by_number : (k : ℕ) → (k ≡ 0 → ⊥) → word_outcome k ≡ Refused k
       by_number zero h = absurd (h refl)
       by_number (suc k) h = refl
 
-  pub goes-next : n ≡ 0 → (e : Bool) → Goes (as-loading l m) bs e (Next 14) (as-loading l m-now)
-  unfolding word-outcome
-  goes-next z e = goes-now (Next 14) (ap word-outcome z) e
+  pub goes_next : n ≡ 0 → (e : Bool) → Goes (as_loading l m) bs e (Next 14) (as_loading l m_now)
+  unfolding word_outcome
+  goes_next z e = goes_now (Next 14) (ap word_outcome z) e
 
-  pub recorded-refused : (n ≡ 0 → ⊥) → Recorded-in-store l m bs (record { loading = l; outcome = Refused n }) m-now
-  unfolding Outcome-within
-  recorded-refused h =
+  pub recorded_refused : (n ≡ 0 → ⊥) → RecordedInStore l m bs (record { loading = l; outcome = Refused n }) m_now
+  unfolding OutcomeWithin
+  recorded_refused h =
       record {
-        loading-same = refl;
-        recorded = λ e. record { size_same = w.size_same; within = within-now; goes = goes-refused h e; outcome-within = omega arith; kept = (refl, w.kept h) };
+        loading_same = refl;
+        recorded = λ e. record { size_same = w.size_same; within = within_now; goes = goes_refused h e; outcome_within = omega arith; kept = (refl, w.kept h) };
       }
 
-  pub recorded-next : n ≡ 0 → 14 ≤ length bs → Recorded-in-store l m bs (record { loading = l; outcome = Next 14 }) m-now
-  unfolding Outcome-within
-  recorded-next z h =
+  pub recorded_next : n ≡ 0 → 14 ≤ length bs → RecordedInStore l m bs (record { loading = l; outcome = Next 14 }) m_now
+  unfolding OutcomeWithin
+  recorded_next z h =
       record {
-        loading-same = refl;
-        recorded = λ e. record { size_same = w.size_same; within = within-now; goes = goes-next z e; outcome-within = (omega arith, h); kept = tt };
+        loading_same = refl;
+        recorded = λ e. record { size_same = w.size_same; within = within_now; goes = goes_next z e; outcome_within = (omega arith, h); kept = tt };
       }
 
-pub ruleset word-recorded = (recorded-refused, recorded-next)
+pub ruleset word_recorded = (recorded_refused, recorded_next)

@@ -1,6 +1,6 @@
 // What the records so far gave, and what comes of one record.
 ghost use Rattle.std.specs.Prelude.{◌≡◌, length, replicate};
-ghost use Rattle.loading.specs.View.{Starts, Starts-sizing};
+ghost use Rattle.loading.specs.View.{Starts, StartsSizing};
 
 use host::record::{DescriptorBase, Pointer, Registers};
 use state::Delivery;
@@ -39,7 +39,7 @@ pub struct Recorded {
 
 // Before the first record; what is lent is zeros.
 pub fn nothing_loaded(is_stored: bool) -> Loading
-    ensures { Starts is_stored result × Starts-sizing is_stored result }
+    ensures { Starts is_stored result × StartsSizing is_stored result }
 {
     let zero = Pointer {
         ring: 0,

@@ -2,15 +2,15 @@
 ghost use Rattle.std.specs.Prelude.{◌≡◌, ◌-◌, ◌≤◌, ◌<◌, length};
 ghost use Rattle.std.proofs.Math.Option.{some};
 ghost use Rattle.model.specs.Image as Image;
-ghost use Rattle.loading.specs.Record.{Asked-51, word-put, Word-taken, Recorded-in-store};
-ghost use Rattle.loading.specs.View.{Store-sized, Memory-within, Loading-within, rules-of};
+ghost use Rattle.loading.specs.Record.{Asked51, word_put, WordTaken, RecordedInStore};
+ghost use Rattle.loading.specs.View.{StoreSized, MemoryWithin, LoadingWithin, rules_of};
 
 use crate::{Loading, Outcome, Recorded};
 use fields::number::{number_4, number_8};
 
 // Where the set starts: after memory, if the store has any. Whether it has is the same for every WD, so that a loop asks it once.
 fn set_start(is_stored: bool, store: &[u64]) -> usize
-    requires { Store-sized is_stored (length store.now) }
+    requires { StoreSized is_stored (length store.now) }
     ensures { result ≡ length store.now - 128 }
 {
     if 128 < store.len() {
@@ -21,8 +21,8 @@ fn set_start(is_stored: bool, store: &[u64]) -> usize
 
 // 51: whether a WD may write the address; today it is then among those that one has had.
 fn may_write(is_stored: bool, store: &mut [u64], address: usize) -> bool
-    requires { Store-sized is_stored (length store.old) × (address < 8192) }
-    ensures { Asked-51 (rules-of is_stored) address store.old result store.new }
+    requires { StoreSized is_stored (length store.old) × (address < 8192) }
+    ensures { Asked51 (rules_of is_stored) address store.old result store.new }
 {
     if is_stored {
         return true;
@@ -37,8 +37,8 @@ fn may_write(is_stored: bool, store: &mut [u64], address: usize) -> bool
 
 // A word of memory, where the store has any.
 fn put_word(is_stored: bool, store: &mut [u64], address: usize, word: u64)
-    requires { Store-sized is_stored (length store.old) × (address < 8192) }
-    ensures { store.new ≡ word-put address word store.old }
+    requires { StoreSized is_stored (length store.old) × (address < 8192) }
+    ensures { store.new ≡ word_put address word store.old }
 {
     if 128 < store.len() {
         store[address] = word;
@@ -54,8 +54,8 @@ pub fn take_word(
     store: &mut [u64],
     bytes: &[u8],
 ) -> u8
-    requires { (Image.mark_of bytes.now ≡ some Image.WD) × (14 ≤ length bytes.now) × Store-sized is_stored (length store.old) × Memory-within has_memory words store.old }
-    ensures { Word-taken is_stored has_memory words store.old bytes.now result store.new }
+    requires { (Image.mark_of bytes.now ≡ some Image.WD) × (14 ≤ length bytes.now) × StoreSized is_stored (length store.old) × MemoryWithin has_memory words store.old }
+    ensures { WordTaken is_stored has_memory words store.old bytes.now result store.new }
 {
     if !has_memory {
         return 42;
@@ -74,8 +74,8 @@ pub fn take_word(
 
 // WD as a record.
 pub fn load_word(loading: Loading, store: &mut [u64], bytes: &[u8]) -> Recorded
-    requires { (Image.mark_of bytes.now ≡ some Image.WD) × (14 ≤ length bytes.now) × Loading-within loading store.old }
-    ensures { Recorded-in-store loading store.old bytes.now result store.new }
+    requires { (Image.mark_of bytes.now ≡ some Image.WD) × (14 ≤ length bytes.now) × LoadingWithin loading store.old }
+    ensures { RecordedInStore loading store.old bytes.now result store.new }
 {
     let n = take_word(
         loading.is_stored,

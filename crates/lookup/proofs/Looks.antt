@@ -16,20 +16,20 @@ is_false : (t : Bool) → T (not t) → t ≡ false
 is_false true h = absurd h
 is_false false h = refl
 
-touched-says : (s : Search) (seg : ℕ) (ys zs : List Record) → s ≡ searched (record { word = 0; segment = seg; count = 0; hit = false; stale = false }) ys → zs ≡ touched s ys → (s ≡ found seg ys) × (zs ≡ touched (found seg ys) ys)
+touched_says : (s : Search) (seg : ℕ) (ys zs : List Record) → s ≡ searched (record { word = 0; segment = seg; count = 0; hit = false; stale = false }) ys → zs ≡ touched s ys → (s ≡ found seg ys) × (zs ≡ touched (found seg ys) ys)
 unfolding found
-touched-says s seg ys zs e f = (e, f ∙ ap (λ (t : Search). touched t ys) e)
+touched_says s seg ys zs e f = (e, f ∙ ap (λ (t : Search). touched t ys) e)
 
-by-stale : (s : Search) (ys : List Record) → s.stale ≡ true → map (used s) ys ≡ touched s ys
+by_stale : (s : Search) (ys : List Record) → s.stale ≡ true → map (used s) ys ≡ touched s ys
 unfolding touched
-by-stale s ys g = rw g
+by_stale s ys g = rw g
 
-by-other : (s : Search) (ys : List Record) → s.stale ≡ false → ys ≡ touched s ys
+by_other : (s : Search) (ys : List Record) → s.stale ≡ false → ys ≡ touched s ys
 unfolding touched
-by-other s ys g = rw g
+by_other s ys g = rw g
 
-pub stale-says : (s : Search) (seg : ℕ) (ys zs : List Record) → s ≡ searched (record { word = 0; segment = seg; count = 0; hit = false; stale = false }) ys → T s.stale → zs ≡ map (used s) ys → (s ≡ found seg ys) × (zs ≡ touched (found seg ys) ys)
-stale-says s seg ys zs e h f = touched-says s seg ys zs e (f ∙ by-stale s ys (is_true s.stale h))
+pub stale_says : (s : Search) (seg : ℕ) (ys zs : List Record) → s ≡ searched (record { word = 0; segment = seg; count = 0; hit = false; stale = false }) ys → T s.stale → zs ≡ map (used s) ys → (s ≡ found seg ys) × (zs ≡ touched (found seg ys) ys)
+stale_says s seg ys zs e h f = touched_says s seg ys zs e (f ∙ by_stale s ys (is_true s.stale h))
 
-pub other-says : (s : Search) (seg : ℕ) (ys : List Record) → s ≡ searched (record { word = 0; segment = seg; count = 0; hit = false; stale = false }) ys → T (not s.stale) → (s ≡ found seg ys) × (ys ≡ touched (found seg ys) ys)
-other-says s seg ys e h = touched-says s seg ys ys e (by-other s ys (is_false s.stale h))
+pub other_says : (s : Search) (seg : ℕ) (ys : List Record) → s ≡ searched (record { word = 0; segment = seg; count = 0; hit = false; stale = false }) ys → T (not s.stale) → (s ≡ found seg ys) × (ys ≡ touched (found seg ys) ys)
+other_says s seg ys e h = touched_says s seg ys ys e (by_other s ys (is_false s.stale h))

@@ -1,6 +1,6 @@
 // The descriptor records that a host lends (02, L7): look-up, replacement and clearing over the slice of them, above functions of one record by value.
 ghost use Rattle.std.specs.Prelude.{◌≡◌, true, map};
-ghost use Rattle.lookup.specs.Lookup.{seen, searched, used, overwritten, without-mark, found, touched, tallied, tallied-all, each_seen, numbered, numbered-from, no-tally, in_order};
+ghost use Rattle.lookup.specs.Lookup.{seen, searched, used, overwritten, without_mark, found, touched, tallied, tallied_all, each_seen, numbered, numbered_from, no_tally, in_order};
 
 // A record is valid when its mark is 1, and only then.
 #[repr(C)]
@@ -94,7 +94,7 @@ fn overwrite(s: Entry, r: Record) -> Record
 }
 
 fn unmark(r: Record) -> Record
-    ensures { result ≡ without-mark r }
+    ensures { result ≡ without_mark r }
 {
     Record {
         descriptor: r.descriptor,
@@ -140,7 +140,7 @@ pub fn replace(records: &mut [Record], s: Entry)
 }
 
 pub fn clear(records: &mut [Record])
-    ensures { records.new ≡ map without-mark records.old }
+    ensures { records.new ≡ map without_mark records.old }
 {
     let mut i: usize = 0;
     while i < records.len() {
@@ -220,7 +220,7 @@ fn number_one(t: Tally, i: usize, r: Record) -> Record
 }
 
 fn count_all(records: &mut [Record], from: Tally) -> Tally
-    ensures { (result ≡ tallied-all from records.old) × (records.new ≡ records.old) }
+    ensures { (result ≡ tallied_all from records.old) × (records.new ≡ records.old) }
 {
     let mut s = from;
     let mut i: usize = 0;
@@ -232,7 +232,7 @@ fn count_all(records: &mut [Record], from: Tally) -> Tally
 }
 
 fn number(records: &mut [Record], s: Tally)
-    ensures { records.new ≡ numbered-from s 0 records.old }
+    ensures { records.new ≡ numbered_from s 0 records.old }
 {
     let mut i: usize = 0;
     while i < records.len() {
@@ -242,7 +242,7 @@ fn number(records: &mut [Record], s: Tally)
 }
 
 fn empty_tally() -> Tally
-    ensures { result ≡ no-tally }
+    ensures { result ≡ no_tally }
 {
     Tally {
         seen: [0; 16],

@@ -1,9 +1,9 @@
 // 1 to 4, then a run: the host tests nothing first.
 ghost use Rattle.std.specs.Prelude.{◌≡◌};
-ghost use Rattle.model.specs.Questions.{start-questions};
-ghost use Rattle.state.specs.View.{as-machine, as-delivery};
-ghost use Rattle.plain.specs.Plain.{core-of};
-ghost use Rattle.machine.specs.Answered.{Answered-as, Prepared-as};
+ghost use Rattle.model.specs.Questions.{start_questions};
+ghost use Rattle.state.specs.View.{as_machine, as_delivery};
+ghost use Rattle.plain.specs.Plain.{core_of};
+ghost use Rattle.machine.specs.Answered.{AnsweredAs, PreparedAs};
 
 use answers::{Answered, answer_of};
 use host::record::Registers;
@@ -15,7 +15,7 @@ use words::pointer::{Pointer, SegmentNumber, WordNumber};
 // 1 to 4 alone: the number of the first no, or 0. It is a run of no steps, so that the one big function stays the only one that
 // asks them.
 fn ask(delivery: Delivery, core: Core, prs: &mut [u16; 24], memory: &mut [u64]) -> u8
-    ensures { (result ≡ start-questions (as-delivery delivery) (as-machine core prs.old memory.old)) × (as-machine core prs.new memory.new ≡ as-machine core prs.old memory.old) }
+    ensures { (result ≡ start_questions (as_delivery delivery) (as_machine core prs.old memory.old)) × (as_machine core prs.new memory.new ≡ as_machine core prs.old memory.old) }
 {
     if !host::start::is_delivery(delivery) {
         return host::start::delivery_refused(memory);
@@ -43,7 +43,7 @@ pub fn run(
     delivery: Delivery,
     single: bool,
 ) -> Answered
-    ensures { Answered-as (as-delivery delivery) single budget (core-of a address length ring segment word) prs.old memory.old trace.old result prs.new memory.new trace.new }
+    ensures { AnsweredAs (as_delivery delivery) single budget (core_of a address length ring segment word) prs.old memory.old trace.old result prs.new memory.new trace.new }
 {
     let core = Core {
         a,
@@ -74,7 +74,7 @@ pub struct Prepared {
 
 // 1 to 4 of a host's record.
 pub fn prepare(registers: Registers, memory: &mut [u64]) -> Prepared
-    ensures { Prepared-as registers memory.old result memory.new }
+    ensures { PreparedAs registers memory.old result memory.new }
 {
     let core = host::record::core_of(registers);
     let mut prs = registers.prs;

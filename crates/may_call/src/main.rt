@@ -1,11 +1,11 @@
 // The laptop's program for CALL's check: a pointer and an image on standard input, what a call there would do on standard output.
-ghost use Rattle.checks.specs.View.{Verdict-within};
+ghost use Rattle.checks.specs.View.{VerdictWithin};
 
 use checks::Verdict;
 use fields::number::number_2;
 
 fn print_verdict(verdict: Verdict)
-    requires { Verdict-within verdict }
+    requires { VerdictWithin verdict }
 {
     let mut text = [0u8; 64];
     let size = checks::line::put_check(&mut text, 0, verdict);

@@ -6,18 +6,18 @@ use lib.Dec.{eqb}
 use borrow.Author.Tests.{eqb-true, eqb-false}
 
 -- a relation goes through a branch on two equal tests
-pub cond-rel {ℓ ℓ' κ} : {A : Type ℓ} {B : Type ℓ'} (R : A → B → Type κ) {b c : Bool} {x y : A} {x' y' : B} →
+pub cond_rel {ℓ ℓ' κ} : {A : Type ℓ} {B : Type ℓ'} (R : A → B → Type κ) {b c : Bool} {x y : A} {x' y' : B} →
     b ≡ c → (b ≡ true → R x x') → (b ≡ false → R y y') → R (cond b x y) (cond c x' y')
-cond-rel R {b} {c} {x} {y} {x'} {y'} p f g = subst (λ t. R (cond b x y) (cond t x' y')) p (by-test b f g)
+cond_rel R {b} {c} {x} {y} {x'} {y'} p f g = subst (λ t. R (cond b x y) (cond t x' y')) p (by_test b f g)
   where
-    by-test : (b : Bool) → (b ≡ true → R x x') → (b ≡ false → R y y') → R (cond b x y) (cond b x' y')
-    by-test true f g = f refl
-    by-test false f g = g refl
+    by_test : (b : Bool) → (b ≡ true → R x x') → (b ≡ false → R y y') → R (cond b x y) (cond b x' y')
+    by_test true f g = f refl
+    by_test false f g = g refl
 
 -- a property, likewise
-pub cond-holds {ℓ κ} : {A : Type ℓ} (P : A → Type κ) (b : Bool) {x y : A} → (b ≡ true → P x) → (b ≡ false → P y) → P (cond b x y)
-cond-holds P true f g = f refl
-cond-holds P false f g = g refl
+pub cond_holds {ℓ κ} : {A : Type ℓ} (P : A → Type κ) (b : Bool) {x y : A} → (b ≡ true → P x) → (b ≡ false → P y) → P (cond b x y)
+cond_holds P true f g = f refl
+cond_holds P false f g = g refl
 
 pub and_left : (a b : Bool) → (a && b) ≡ true → a ≡ true
 and_left true b e = refl
@@ -32,11 +32,11 @@ and_both true b p q = q
 and_both false b p q = p
 
 pub and_same : (a b x y : Bool) → a ≡ b → (a ≡ true → x ≡ y) → (a && x) ≡ (b && y)
-and_same a b x y p f = subst (λ z. (a && x) ≡ (z && y)) p (by-test a f)
+and_same a b x y p f = subst (λ z. (a && x) ≡ (z && y)) p (by_test a f)
   where
-    by-test : (a : Bool) → (a ≡ true → x ≡ y) → (a && x) ≡ (a && y)
-    by-test true f = f refl
-    by-test false f = refl
+    by_test : (a : Bool) → (a ≡ true → x ≡ y) → (a && x) ≡ (a && y)
+    by_test true f = f refl
+    by_test false f = refl
 
 pub or_left : (a b : Bool) → a ≡ true → (a || b) ≡ true
 or_left true b p = refl
@@ -47,22 +47,22 @@ or_right true b p = refl
 or_right false b p = p
 
 -- the privilege test: where it passes above ring 0, the opcode is not privileged
-pub not-or-false : (a b : Bool) → (not a || b) ≡ true → b ≡ false → a ≡ false
-not-or-false true b e f = sym e ∙ f
-not-or-false false b e f = refl
+pub not_or_false : (a b : Bool) → (not a || b) ≡ true → b ≡ false → a ≡ false
+not_or_false true b e f = sym e ∙ f
+not_or_false false b e f = refl
 
-pub or-rest : (a b : Bool) → a ≡ false → (a || b) ≡ true → b ≡ true
-or-rest true b e h = absurd (false≢true (sym e))
-or-rest false b e h = h
+pub or_rest : (a b : Bool) → a ≡ false → (a || b) ≡ true → b ≡ true
+or_rest true b e h = absurd (false≢true (sym e))
+or_rest false b e h = h
 
-pub or-none : (a b : Bool) → (a || b) ≡ false → (a ≡ false) × (b ≡ false)
-or-none true b e = absurd (false≢true (sym e))
-or-none false b e = (refl, e)
+pub or_none : (a b : Bool) → (a || b) ≡ false → (a ≡ false) × (b ≡ false)
+or_none true b e = absurd (false≢true (sym e))
+or_none false b e = (refl, e)
 
 -- two numbers are equal or not
-pub by-equality {ℓ} : {A : Type ℓ} (a b : ℕ) → (a ≡ b → A) → ((a ≡ b → ⊥) → A) → A
-by-equality {A = A} a b f g = by-test (eqb a b) refl
+pub by_equality {ℓ} : {A : Type ℓ} (a b : ℕ) → (a ≡ b → A) → ((a ≡ b → ⊥) → A) → A
+by_equality {A = A} a b f g = by_test (eqb a b) refl
   where
-    by-test : (t : Bool) → eqb a b ≡ t → A
-    by-test true e = f (eqb-true a b e)
-    by-test false e = g (eqb-false a b e)
+    by_test : (t : Bool) → eqb a b ≡ t → A
+    by_test true e = f (eqb-true a b e)
+    by_test false e = g (eqb-false a b e)

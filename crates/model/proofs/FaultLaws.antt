@@ -7,17 +7,17 @@ use Prim.Native.Nat.{ℕ, zero, suc, ◌≤◌}
 use native.Mathlib.Nat.{le_refl}
 use lib.Dec.{eqb}
 use lib.ListN.{length}
-use Rattle.model.specs.Words.{Descriptor, Pointer, Instruction, instruction-in}
-use Rattle.model.specs.Registers.{Dbr, Registers, Delivery, Machine, dbr-in, moved_by}
-use Rattle.model.specs.Opcodes.{Access, sets, reads, writes, updates, transfers, calls, returns, loads-dbr, ends-run, restores, Opcode}
-use Rattle.model.specs.Questions.{rings-at-least, dbr-fits, start-questions}
-use Rattle.model.specs.Program.{Program, fail, finish, halt, look, read, tick, forget, write, Outcome, faults, completes, halts, use-answer, or-fault, execute}
-use Rattle.model.specs.Step.{chain, with-operand, load, store, update, transfer, check-call, call, return, if-dbr-fits, load-dbr, read-words, take-up, restore, perform, obey, step-program, step}
-use Rattle.model.proofs.BranchLaws.{cond-holds}
+use Rattle.model.specs.Words.{Descriptor, Pointer, Instruction, instruction_in}
+use Rattle.model.specs.Registers.{Dbr, Registers, Delivery, Machine, dbr_in, moved_by}
+use Rattle.model.specs.Opcodes.{Access, sets, reads, writes, updates, transfers, calls, returns, loads_dbr, ends_run, restores, Opcode}
+use Rattle.model.specs.Questions.{rings_at_least, dbr_fits, start_questions}
+use Rattle.model.specs.Program.{Program, fail, finish, halt, look, read, tick, forget, write, Outcome, faults, completes, halts, use_answer, or_fault, execute}
+use Rattle.model.specs.Step.{chain, with_operand, load, store, update, transfer, check_call, call, return, if_dbr_fits, load_dbr, read_words, take_up, restore, perform, obey, step_program, step}
+use Rattle.model.proofs.BranchLaws.{cond_holds}
 use Rattle.model.proofs.WordLaws.{Within}
-use Rattle.model.proofs.LeavesLaws.{descriptor-r1-within}
-use Rattle.model.proofs.FitLaws.{Fit, Formed, moved-within}
-use Rattle.model.proofs.SoundLaws.{first-address-formed, next-address-formed, passing-fits}
+use Rattle.model.proofs.LeavesLaws.{descriptor_r1_within}
+use Rattle.model.proofs.FitLaws.{Fit, Formed, moved_within}
+use Rattle.model.proofs.SoundLaws.{first_address_formed, next_address_formed, passing_fits}
 
 -- every pointer under question has P
 module _ (P : Pointer → Type 0) where
@@ -31,82 +31,82 @@ module _ (P : Pointer → Type 0) where
   Points (forget p) = Points p
   Points (write q t v r) = P t
 
-  abbrev pub Fault-has : Outcome → Type 0
-  Fault-has (faults n t) = P t
-  Fault-has (completes k) = Unit {0}
-  Fault-has (halts k) = Unit {0}
+  abbrev pub FaultHas : Outcome → Type 0
+  FaultHas (faults n t) = P t
+  FaultHas (completes k) = Unit {0}
+  FaultHas (halts k) = Unit {0}
 
-  fault-or-rest : (n : ℕ) (t : Pointer) (x : Outcome) → P t → Fault-has x → Fault-has (or-fault n t x)
-  unfolding or-fault
-  fault-or-rest zero t x h k = k
-  fault-or-rest (suc n) t x h k = h
+  fault_or_rest : (n : ℕ) (t : Pointer) (x : Outcome) → P t → FaultHas x → FaultHas (or_fault n t x)
+  unfolding or_fault
+  fault_or_rest zero t x h k = k
+  fault_or_rest (suc n) t x h k = h
 
-  pub points-law : (m : Machine) (p : Program) → Points p → Fault-has (execute m p)
+  pub points_law : (m : Machine) (p : Program) → Points p → FaultHas (execute m p)
   unfolding Points execute
-  points-law m (fail n t) h = h
-  points-law m (finish r) h = tt
-  points-law m (halt r) h = tt
-  points-law m (look q t f) h = fault-or-rest (use-answer m t q) t _ h.0 (points-law m (f _) (h.1 _ (descriptor-r1-within m t.segment)))
-  points-law m (read q t f) h = fault-or-rest (use-answer m t q) t _ h.0 (points-law m (f _ _) (h.1 _ _ (descriptor-r1-within m t.segment)))
-  points-law m (tick p) h = points-law m p h
-  points-law m (forget p) h = points-law m p h
-  points-law m (write q t v r) h = fault-or-rest (use-answer m t q) t _ h tt
+  points_law m (fail n t) h = h
+  points_law m (finish r) h = tt
+  points_law m (halt r) h = tt
+  points_law m (look q t f) h = fault_or_rest (use_answer m t q) t _ h.0 (points_law m (f _) (h.1 _ (descriptor_r1_within m t.segment)))
+  points_law m (read q t f) h = fault_or_rest (use_answer m t q) t _ h.0 (points_law m (f _ _) (h.1 _ _ (descriptor_r1_within m t.segment)))
+  points_law m (tick p) h = points_law m p h
+  points_law m (forget p) h = points_law m p h
+  points_law m (write q t v r) h = fault_or_rest (use_answer m t q) t _ h tt
 
 -- the step's pointers are IPR and formed addresses
 module _ {n : ℕ} {r : Registers} (h : Fit (λ _. Unit {0}) (λ _. Unit {0}) n r) where
-  chain-points : (f : Pointer → Program) → ((t : Pointer) → Formed r t → Points Within (f t)) →
+  chain_points : (f : Pointer → Program) → ((t : Pointer) → Formed r t → Points Within (f t)) →
       (left : ℕ) (i : Bool) (t : Pointer) → Formed r t → Points Within (chain left i t f)
   unfolding chain Points
-  chain-points f k zero i t g = cond-holds (Points Within) i (λ _. g.within) (λ _. k t g)
-  chain-points f k (suc l) i t g =
-      cond-holds (Points Within) i
-      (λ _. (g.within, λ d w b. chain-points f k l _ _ (next-address-formed (λ v _. tt) tt h t d w b g))) (λ _. k t g)
+  chain_points f k zero i t g = cond_holds (Points Within) i (λ _. g.within) (λ _. k t g)
+  chain_points f k (suc l) i t g =
+      cond_holds (Points Within) i
+      (λ _. (g.within, λ d w b. chain_points f k l _ _ (next_address_formed (λ v _. tt) tt h t d w b g))) (λ _. k t g)
 
-  dbr-points : (b : Dbr) (t : Pointer) (p : Program) → Within t → Points Within p → Points Within (if-dbr-fits n b t p)
-  unfolding if-dbr-fits Points
-  dbr-points b t p w h = cond-holds (Points Within) (dbr-fits n b) (λ _. h) (λ _. w)
+  dbr_points : (b : Dbr) (t : Pointer) (p : Program) → Within t → Points Within p → Points Within (if_dbr_fits n b t p)
+  unfolding if_dbr_fits Points
+  dbr_points b t p w h = cond_holds (Points Within) (dbr_fits n b) (λ _. h) (λ _. w)
 
-  taken-points : (t : Pointer) (u : Registers) → Within t → Points Within (take-up n t u)
-  unfolding take-up Points
-  taken-points t u w = dbr-points u.dbr t _ w (cond-holds (Points Within) (rings-at-least u.ipr.ring u.prs) (λ _. tt) (λ _. w))
+  taken_points : (t : Pointer) (u : Registers) → Within t → Points Within (take_up n t u)
+  unfolding take_up Points
+  taken_points t u w = dbr_points u.dbr t _ w (cond_holds (Points Within) (rings_at_least u.ipr.ring u.prs) (λ _. tt) (λ _. w))
 
-  words-point : (count : ℕ) (t : Pointer) (f : List ℕ → Program) → Within t → ((ws : List ℕ) → Points Within (f ws)) → Points Within (read-words count t f)
-  unfolding read-words Points
-  words-point zero t f w k = k _
-  words-point (suc c) t f w k = (w, λ d v b. words-point c (moved_by 1 t) _ (moved-within 1 t w) (λ ws. k (v ∷ ws)))
+  words_point : (count : ℕ) (t : Pointer) (f : List ℕ → Program) → Within t → ((ws : List ℕ) → Points Within (f ws)) → Points Within (read_words count t f)
+  unfolding read_words Points
+  words_point zero t f w k = k _
+  words_point (suc c) t f w k = (w, λ d v b. words_point c (moved_by 1 t) _ (moved_within 1 t w) (λ ws. k (v ∷ ws)))
 
-  pub perform-points : (k : Access) (i : Instruction) (t : Pointer) → Formed r t → Points Within (perform n k i r t)
-  unfolding perform load store update transfer check-call call return load-dbr restore Points
-  perform-points (sets f) i t g = tt
-  perform-points (reads f) i t g = (g.within, λ d w b. tt)
-  perform-points (writes f) i t g = g.within
-  perform-points (updates f) i t g = (g.within, λ d w b. g.within)
-  perform-points (transfers f) i t g = cond-holds (Points Within) (f r.a) (λ _. (g.within, λ d b. tt)) (λ _. tt)
-  perform-points calls i t g = (g.within, λ d b. tt)
-  perform-points returns i t g = (g.within, λ d b. tt)
-  perform-points loads-dbr i t g = (g.within, λ d w b. dbr-points (dbr-in w) t _ g.within tt)
-  perform-points ends-run i t g = tt
-  perform-points restores i t g = (g.within, λ d b. words-point 13 t _ g.within (λ ws. taken-points t _ g.within))
+  pub perform_points : (k : Access) (i : Instruction) (t : Pointer) → Formed r t → Points Within (perform n k i r t)
+  unfolding perform load store update transfer check_call call return load_dbr restore Points
+  perform_points (sets f) i t g = tt
+  perform_points (reads f) i t g = (g.within, λ d w b. tt)
+  perform_points (writes f) i t g = g.within
+  perform_points (updates f) i t g = (g.within, λ d w b. g.within)
+  perform_points (transfers f) i t g = cond_holds (Points Within) (f r.a) (λ _. (g.within, λ d b. tt)) (λ _. tt)
+  perform_points calls i t g = (g.within, λ d b. tt)
+  perform_points returns i t g = (g.within, λ d b. tt)
+  perform_points loads_dbr i t g = (g.within, λ d w b. dbr_points (dbr_in w) t _ g.within tt)
+  perform_points ends_run i t g = tt
+  perform_points restores i t g = (g.within, λ d b. words_point 13 t _ g.within (λ ws. taken_points t _ g.within))
 
-  pub operand-points : (o : Opcode) (i : Instruction) (f : Pointer → Program) → ((t : Pointer) → Formed r t → Points Within (f t)) →
-      Points Within (with-operand o i r f)
-  unfolding with-operand
-  operand-points o i f k =
-      cond-holds (Points Within) o.operand (λ _. chain-points f k 64 _ _ (first-address-formed (λ v _. tt) tt h i))
-      (λ _. k r.ipr (record { within = h.pointers-fit.ipr-within; ring-at-least = le_refl r.ipr.ring }))
+  pub operand_points : (o : Opcode) (i : Instruction) (f : Pointer → Program) → ((t : Pointer) → Formed r t → Points Within (f t)) →
+      Points Within (with_operand o i r f)
+  unfolding with_operand
+  operand_points o i f k =
+      cond_holds (Points Within) o.operand (λ _. chain_points f k 64 _ _ (first_address_formed (λ v _. tt) tt h i))
+      (λ _. k r.ipr (record { within = h.pointers_fit.ipr_within; ring_at_least = le_refl r.ipr.ring }))
 
-  obey-points : (i : Instruction) (o : Option Opcode) → Points Within (obey n r i o)
+  obey_points : (i : Instruction) (o : Option Opcode) → Points Within (obey n r i o)
   unfolding obey Points
-  obey-points i none = h.pointers-fit.ipr-within
-  obey-points i (some o) =
-      cond-holds (Points Within) (not o.privileged || eqb r.ipr.ring 0)
-      (λ _. operand-points o i _ (λ t g. perform-points o.access i t g)) (λ _. h.pointers-fit.ipr-within)
+  obey_points i none = h.pointers_fit.ipr_within
+  obey_points i (some o) =
+      cond_holds (Points Within) (not o.privileged || eqb r.ipr.ring 0)
+      (λ _. operand_points o i _ (λ t g. perform_points o.access i t g)) (λ _. h.pointers_fit.ipr_within)
 
-  step-points : Points Within (step-program n r)
-  unfolding step-program Points
-  step-points = (h.pointers-fit.ipr-within, λ d w b. obey-points (instruction-in w) _)
+  step_points : Points Within (step_program n r)
+  unfolding step_program Points
+  step_points = (h.pointers_fit.ipr_within, λ d w b. obey_points (instruction_in w) _)
 
-pub fault-pointer-within : (v : Delivery) (m : Machine) (n : ℕ) (t : Pointer) → start-questions v m ≡ 0 → step m ≡ faults n t → Within t
+pub fault_pointer_within : (v : Delivery) (m : Machine) (n : ℕ) (t : Pointer) → start_questions v m ≡ 0 → step m ≡ faults n t → Within t
 unfolding step
-fault-pointer-within v m n t e f =
-    subst (Fault-has Within) f (points-law Within m (step-program (length m.memory) m.registers) (step-points (passing-fits v m e tt tt)))
+fault_pointer_within v m n t e f =
+    subst (FaultHas Within) f (points_law Within m (step_program (length m.memory) m.registers) (step_points (passing_fits v m e tt tt)))

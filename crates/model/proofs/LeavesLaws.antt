@@ -3,16 +3,16 @@ use mathlib.Core.Path.{◌≡◌, refl}
 use Prim.Native.Nat.{ℕ, zero, suc, ◌+◌, ◌≤◌}
 use native.Mathlib.Omega.{arith}
 use lib.ListN.{length, get_or, length-set}
-use Rattle.model.specs.Words.{Descriptor, descriptor-in, Pointer}
+use Rattle.model.specs.Words.{Descriptor, descriptor_in, Pointer}
 use Rattle.model.specs.Registers.{Registers, Machine, machine}
-use Rattle.model.specs.Program.{Program, fail, finish, halt, look, read, tick, forget, write, Outcome, faults, completes, halts, descriptor-of, absolute-address, word_at, use-answer, or-fault, execute}
-use Rattle.model.proofs.ListLaws.{Each-word, each-word-set}
-use Rattle.model.proofs.WordLaws.{field-within-width}
-use Rattle.model.proofs.ProgramLaws.{answer-passes}
+use Rattle.model.specs.Program.{Program, fail, finish, halt, look, read, tick, forget, write, Outcome, faults, completes, halts, descriptor_of, absolute_address, word_at, use_answer, or_fault, execute}
+use Rattle.model.proofs.ListLaws.{EachWord, each_word_set}
+use Rattle.model.proofs.WordLaws.{field_within_width}
+use Rattle.model.proofs.ProgramLaws.{answer_passes}
 
-pub descriptor-r1-within : (m : Machine) (s : ℕ) → (descriptor-of m s).r1 ≤ 7
-unfolding descriptor-of descriptor-in
-descriptor-r1-within m s = let x = field-within-width 40 3 (get_or m.memory (m.registers.dbr.address + s) 0) in omega arith
+pub descriptor_r1_within : (m : Machine) (s : ℕ) → (descriptor_of m s).r1 ≤ 7
+unfolding descriptor_of descriptor_in
+descriptor_r1_within m s = let x = field_within_width 40 3 (get_or m.memory (m.registers.dbr.address + s) 0) in omega arith
 
 -- W is what is known of words, and P of registers
 module _ (W : ℕ → Type 0) (P : Registers → Type 0) where
@@ -29,38 +29,38 @@ module _ (W : ℕ → Type 0) (P : Registers → Type 0) where
 
   -- what a completed step left of a memory of that size
   pub record Left (size : ℕ) (k : Machine) : Type 0 where
-    pub registers-have : P k.registers
-    pub words-have : Each-word W k.memory
-    pub size-kept : length k.memory ≡ size
+    pub registers_have : P k.registers
+    pub words_have : EachWord W k.memory
+    pub size_kept : length k.memory ≡ size
 
-  pub data Outcome-left (size : ℕ) : Outcome → Type 0 where
-    nothing_left : {n : ℕ} {t : Pointer} → Outcome-left size (faults n t)
-    completed-left : {k : Machine} → Left size k → Outcome-left size (completes k)
-    halted-left : {k : Machine} → Left size k → Outcome-left size (halts k)
+  pub data OutcomeLeft (size : ℕ) : Outcome → Type 0 where
+    nothing_left : {n : ℕ} {t : Pointer} → OutcomeLeft size (faults n t)
+    completed_left : {k : Machine} → Left size k → OutcomeLeft size (completes k)
+    halted_left : {k : Machine} → Left size k → OutcomeLeft size (halts k)
 
-  left-unless-fault : {size : ℕ} (n : ℕ) (t : Pointer) {x : Outcome} → (n ≡ 0 → Outcome-left size x) → Outcome-left size (or-fault n t x)
-  unfolding or-fault
-  left-unless-fault zero t f = f refl
-  left-unless-fault (suc n) t f = nothing_left
+  left_unless_fault : {size : ℕ} (n : ℕ) (t : Pointer) {x : Outcome} → (n ≡ 0 → OutcomeLeft size x) → OutcomeLeft size (or_fault n t x)
+  unfolding or_fault
+  left_unless_fault zero t f = f refl
+  left_unless_fault (suc n) t f = nothing_left
 
-  pub leaves-law : (m : Machine) → Each-word W m.memory → (p : Program) → Leaves p → Outcome-left (length m.memory) (execute m p)
+  pub leaves_law : (m : Machine) → EachWord W m.memory → (p : Program) → Leaves p → OutcomeLeft (length m.memory) (execute m p)
   unfolding Leaves execute machine word_at
-  leaves-law m ws (fail n t) h = nothing_left
-  leaves-law m ws (finish r) h = completed-left record { registers-have = h; words-have = ws; size-kept = refl }
-  leaves-law m ws (halt r) h = halted-left record { registers-have = h; words-have = ws; size-kept = refl }
-  leaves-law m ws (look q t f) h =
-      left-unless-fault (use-answer m t q) t
-      (λ e. leaves-law m ws (f _) (h _ (descriptor-r1-within m t.segment) (answer-passes m t q e).1))
-  leaves-law m ws (read q t f) h =
-      left-unless-fault (use-answer m t q) t
-      (λ e. leaves-law m ws (f _ _) (h _ _ (descriptor-r1-within m t.segment) (ws (absolute-address m t)) (answer-passes m t q e).1))
-  leaves-law m ws (tick p) h = leaves-law m ws p h
-  leaves-law m ws (forget p) h = leaves-law m ws p h
-  leaves-law m ws (write q t v r) h =
-      left-unless-fault (use-answer m t q) t
+  leaves_law m ws (fail n t) h = nothing_left
+  leaves_law m ws (finish r) h = completed_left record { registers_have = h; words_have = ws; size_kept = refl }
+  leaves_law m ws (halt r) h = halted_left record { registers_have = h; words_have = ws; size_kept = refl }
+  leaves_law m ws (look q t f) h =
+      left_unless_fault (use_answer m t q) t
+      (λ e. leaves_law m ws (f _) (h _ (descriptor_r1_within m t.segment) (answer_passes m t q e).1))
+  leaves_law m ws (read q t f) h =
+      left_unless_fault (use_answer m t q) t
+      (λ e. leaves_law m ws (f _ _) (h _ _ (descriptor_r1_within m t.segment) (ws (absolute_address m t)) (answer_passes m t q e).1))
+  leaves_law m ws (tick p) h = leaves_law m ws p h
+  leaves_law m ws (forget p) h = leaves_law m ws p h
+  leaves_law m ws (write q t v r) h =
+      left_unless_fault (use_answer m t q) t
       (λ e.
-      completed-left record {
-        registers-have = h.1;
-        words-have = each-word-set W m.memory (absolute-address m t) v ws h.0;
-        size-kept = length-set m.memory (absolute-address m t) v;
+      completed_left record {
+        registers_have = h.1;
+        words_have = each_word_set W m.memory (absolute_address m t) v ws h.0;
+        size_kept = length-set m.memory (absolute_address m t) v;
       })

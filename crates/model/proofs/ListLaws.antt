@@ -15,11 +15,11 @@ module _ {A : Type 0} (f : A → Bool) where
   all_set (y ∷ ys) (suc i) x e h =
       and_both (f y) (all f (set ys i x)) (and_left (f y) (all f ys) e) (all_set ys i x (and_right (f y) (all f ys) e) h)
 
-  pub all-get : (xs : List A) (i : ℕ) (d : A) → all f xs ≡ true → f d ≡ true → f (get_or xs i d) ≡ true
+  pub all_get : (xs : List A) (i : ℕ) (d : A) → all f xs ≡ true → f d ≡ true → f (get_or xs i d) ≡ true
   unfolding all
-  all-get [] i d e h = h
-  all-get (y ∷ ys) zero d e h = and_left (f y) (all f ys) e
-  all-get (y ∷ ys) (suc i) d e h = all-get ys i d (and_right (f y) (all f ys) e) h
+  all_get [] i d e h = h
+  all_get (y ∷ ys) zero d e h = and_left (f y) (all f ys) e
+  all_get (y ∷ ys) (suc i) d e h = all_get ys i d (and_right (f y) (all f ys) e) h
 
   pub all_map : (g : A → Bool) (h : A → A) → ((x : A) → g x ≡ true → f (h x) ≡ true) → (xs : List A) → all g xs ≡ true → all f (map h xs) ≡ true
   unfolding all
@@ -33,21 +33,21 @@ module _ {A : Type 0} (f : A → Bool) where
   all_from g k (y ∷ ys) e = and_both (f y) (all f ys) (k y (and_left (g y) (all g ys) e)) (all_from g k ys (and_right (g y) (all g ys) e))
 
 -- a property of the word at every address; past the end it is 0
-abbrev pub Each-word : (W : ℕ → Type 0) → List ℕ → Type 0
-Each-word W m = (x : ℕ) → W (get_or m x 0)
+abbrev pub EachWord : (W : ℕ → Type 0) → List ℕ → Type 0
+EachWord W m = (x : ℕ) → W (get_or m x 0)
 
-pub each-word-set : (W : ℕ → Type 0) (m : List ℕ) (i v : ℕ) → Each-word W m → W v → Each-word W (set m i v)
-each-word-set W [] i v h w x = h x
-each-word-set W (y ∷ ys) zero v h w zero = w
-each-word-set W (y ∷ ys) zero v h w (suc x) = h (suc x)
-each-word-set W (y ∷ ys) (suc i) v h w zero = h zero
-each-word-set W (y ∷ ys) (suc i) v h w (suc x) = each-word-set W ys i v (λ z. h (suc z)) w x
+pub each_word_set : (W : ℕ → Type 0) (m : List ℕ) (i v : ℕ) → EachWord W m → W v → EachWord W (set m i v)
+each_word_set W [] i v h w x = h x
+each_word_set W (y ∷ ys) zero v h w zero = w
+each_word_set W (y ∷ ys) zero v h w (suc x) = h (suc x)
+each_word_set W (y ∷ ys) (suc i) v h w zero = h zero
+each_word_set W (y ∷ ys) (suc i) v h w (suc x) = each_word_set W ys i v (λ z. h (suc z)) w x
 
 -- a test of all words, and of every address where 0 passes it
-pub all-each : (f : ℕ → Bool) (m : List ℕ) → f 0 ≡ true → all f m ≡ true → Each-word (λ w. f w ≡ true) m
-all-each f m z e x = all-get f m x 0 e z
+pub all_each : (f : ℕ → Bool) (m : List ℕ) → f 0 ≡ true → all f m ≡ true → EachWord (λ w. f w ≡ true) m
+all_each f m z e x = all_get f m x 0 e z
 
-pub each_all : (f : ℕ → Bool) (m : List ℕ) → Each-word (λ w. f w ≡ true) m → all f m ≡ true
+pub each_all : (f : ℕ → Bool) (m : List ℕ) → EachWord (λ w. f w ≡ true) m → all f m ≡ true
 unfolding all
 each_all f [] h = refl
 each_all f (x ∷ xs) h = and_both (f x) (all f xs) (h 0) (each_all f xs (λ z. h (suc z)))

@@ -9,207 +9,207 @@ use lib.Dec.{leb, eqb, lit≤}
 use lib.ListN.{length, get_or, take, drop, length-map, length-drop}
 use lib.Seq.{length-take-le}
 use borrow.Author.Tests.{leb-true, le-leb}
-use Rattle.model.specs.Words.{Descriptor, Pointer, pointer_in, Instruction, instruction-in}
-use Rattle.model.specs.Registers.{Registers, Delivery, Machine, dbr-in, moved_by, with-ring-at-least, with-ipr}
-use Rattle.model.specs.Opcodes.{Access, sets, reads, writes, updates, transfers, calls, returns, loads-dbr, ends-run, restores, Opcode}
-use Rattle.model.specs.Questions.{memory-fits, pointer-in-range, delivery-in-range, registers-in-range, rings-at-least, dbr-fits, start-questions, ask, new-ring, all}
+use Rattle.model.specs.Words.{Descriptor, Pointer, pointer_in, Instruction, instruction_in}
+use Rattle.model.specs.Registers.{Registers, Delivery, Machine, dbr_in, moved_by, with_ring_at_least, with_ipr}
+use Rattle.model.specs.Opcodes.{Access, sets, reads, writes, updates, transfers, calls, returns, loads_dbr, ends_run, restores, Opcode}
+use Rattle.model.specs.Questions.{memory_fits, pointer_in_range, delivery_in_range, registers_in_range, rings_at_least, dbr_fits, start_questions, ask, new_ring, all}
 use Rattle.model.specs.Program.{Program}
-use Rattle.model.specs.Step.{first-address, next_address, chain, with-operand, stack-base, called, load, store, update, transfer, check-call, call, return, if-dbr-fits, load-dbr, read-words, registers-in, take-up, restore, perform, obey, step-program, step}
-use Rattle.model.proofs.BranchLaws.{cond-holds, and_left, and_right, and_both}
-use Rattle.model.proofs.WordLaws.{field-within-width, Within, in-range-within, within-in-range, pointer-in-within}
-use Rattle.model.proofs.QuestionLaws.{ask-yes, transfer-keeps-ring, call-ring-at-most}
-use Rattle.model.proofs.TableLaws.{If-there, decoded-has}
-use Rattle.model.proofs.LeavesLaws.{Leaves, Left, Outcome-left, leaves-law}
-use Rattle.model.proofs.FitLaws.{Dbr-fit, Fit, Formed, moved-within, raised-within, pr-within, fit-with-a, fit-with-dbr, fit-with-ipr, fit-advanced, fit-called, fit-returned}
-use Rattle.model.proofs.ListLaws.{Each-word}
-use Rattle.model.proofs.KeepsLaws.{Keeps-fit, table-keeps-fit}
+use Rattle.model.specs.Step.{first_address, next_address, chain, with_operand, stack_base, called, load, store, update, transfer, check_call, call, return, if_dbr_fits, load_dbr, read_words, registers_in, take_up, restore, perform, obey, step_program, step}
+use Rattle.model.proofs.BranchLaws.{cond_holds, and_left, and_right, and_both}
+use Rattle.model.proofs.WordLaws.{field_within_width, Within, in_range_within, within_in_range, pointer_in_within}
+use Rattle.model.proofs.QuestionLaws.{ask_yes, transfer_keeps_ring, call_ring_at_most}
+use Rattle.model.proofs.TableLaws.{IfThere, decoded_has}
+use Rattle.model.proofs.LeavesLaws.{Leaves, Left, OutcomeLeft, leaves_law}
+use Rattle.model.proofs.FitLaws.{DbrFit, Fit, Formed, moved_within, raised_within, pr_within, fit_with_a, fit_with_dbr, fit_with_ipr, fit_advanced, fit_called, fit_returned}
+use Rattle.model.proofs.ListLaws.{EachWord}
+use Rattle.model.proofs.KeepsLaws.{KeepsFit, table_keeps_fit}
 
 -- THE DBR of a word for which 34 has a yes
-pub loaded-dbr-fit : (n w : ℕ) → dbr-fits n (dbr-in w) ≡ true → Dbr-fit n (dbr-in w)
-unfolding dbr-in
-loaded-dbr-fit n w e = let x = field-within-width 0 24 w in record { address-within = omega arith; fits = e }
+pub loaded_dbr_fit : (n w : ℕ) → dbr_fits n (dbr_in w) ≡ true → DbrFit n (dbr_in w)
+unfolding dbr_in
+loaded_dbr_fit n w e = let x = field_within_width 0 24 w in record { address_within = omega arith; fits = e }
 
 -- THE ADDRESS
 module _ {W C : ℕ → Type 0} (word : (v : ℕ) → v < 2 ^ 64 → W v) (eight : C 8) {n : ℕ} {r : Registers} (h : Fit W C n r) where
-  pub first-address-formed : (i : Instruction) → Formed r (first-address i r)
-  unfolding first-address moved_by with-ring-at-least
-  first-address-formed i =
-      cond-holds (λ p. Formed r (moved_by i.offset p)) i.p
-      (λ _. record { within = moved-within i.offset _ (raised-within _ _ ipr.ring-within (pr-within h i.prnum)); ring-at-least = omega arith })
-      (λ _. record { within = moved-within i.offset _ ipr; ring-at-least = omega arith })
+  pub first_address_formed : (i : Instruction) → Formed r (first_address i r)
+  unfolding first_address moved_by with_ring_at_least
+  first_address_formed i =
+      cond_holds (λ p. Formed r (moved_by i.offset p)) i.p
+      (λ _. record { within = moved_within i.offset _ (raised_within _ _ ipr.ring_within (pr_within h i.prnum)); ring_at_least = omega arith })
+      (λ _. record { within = moved_within i.offset _ ipr; ring_at_least = omega arith })
     where
       ipr : Within r.ipr
-      ipr = h.pointers-fit.ipr-within
+      ipr = h.pointers_fit.ipr_within
 
-  pub next-address-formed : (t : Pointer) (d : Descriptor) (w : ℕ) → d.r1 ≤ 7 → Formed r t → Formed r (next_address t d w)
-  unfolding next_address with-ring-at-least
-  next-address-formed t d w l g =
-      let x = g.within.ring-within in
-      let y = g.ring-at-least in
-      record { within = raised-within _ (pointer_in w) (omega arith) (pointer-in-within w); ring-at-least = omega arith }
+  pub next_address_formed : (t : Pointer) (d : Descriptor) (w : ℕ) → d.r1 ≤ 7 → Formed r t → Formed r (next_address t d w)
+  unfolding next_address with_ring_at_least
+  next_address_formed t d w l g =
+      let x = g.within.ring_within in
+      let y = g.ring_at_least in
+      record { within = raised_within _ (pointer_in w) (omega arith) (pointer_in_within w); ring_at_least = omega arith }
 
-  chain-leaves : (f : Pointer → Program) → ((t : Pointer) → Formed r t → Leaves W (Fit W C n) (f t)) →
+  chain_leaves : (f : Pointer → Program) → ((t : Pointer) → Formed r t → Leaves W (Fit W C n) (f t)) →
       (left : ℕ) (i : Bool) (t : Pointer) → Formed r t → Leaves W (Fit W C n) (chain left i t f)
   unfolding chain Leaves
-  chain-leaves f k zero i t g = cond-holds (Leaves W (Fit W C n)) i (λ _. tt) (λ _. k t g)
-  chain-leaves f k (suc l) i t g =
-      cond-holds (Leaves W (Fit W C n)) i (λ _ d w b e q. chain-leaves f k l _ _ (next-address-formed t d w b g)) (λ _. k t g)
+  chain_leaves f k zero i t g = cond_holds (Leaves W (Fit W C n)) i (λ _. tt) (λ _. k t g)
+  chain_leaves f k (suc l) i t g =
+      cond_holds (Leaves W (Fit W C n)) i (λ _ d w b e q. chain_leaves f k l _ _ (next_address_formed t d w b g)) (λ _. k t g)
 
-  operand-leaves : (o : Opcode) (i : Instruction) (f : Pointer → Program) → ((t : Pointer) → Formed r t → Leaves W (Fit W C n) (f t)) →
-      Leaves W (Fit W C n) (with-operand o i r f)
-  unfolding with-operand
-  operand-leaves o i f k =
-      cond-holds (Leaves W (Fit W C n)) o.operand (λ _. chain-leaves f k 64 _ _ (first-address-formed i))
-      (λ _. k r.ipr (record { within = h.pointers-fit.ipr-within; ring-at-least = omega arith }))
+  operand_leaves : (o : Opcode) (i : Instruction) (f : Pointer → Program) → ((t : Pointer) → Formed r t → Leaves W (Fit W C n) (f t)) →
+      Leaves W (Fit W C n) (with_operand o i r f)
+  unfolding with_operand
+  operand_leaves o i f k =
+      cond_holds (Leaves W (Fit W C n)) o.operand (λ _. chain_leaves f k 64 _ _ (first_address_formed i))
+      (λ _. k r.ipr (record { within = h.pointers_fit.ipr_within; ring_at_least = omega arith }))
 
   -- THE ACCESSES
-  call_fits : (t : Pointer) (d : Descriptor) → Formed r t → new-ring t d ≤ r.ipr.ring → Fit W C n (called (new-ring t d) t r)
-  unfolding called stack-base new-ring
+  call_fits : (t : Pointer) (d : Descriptor) → Formed r t → new_ring t d ≤ r.ipr.ring → Fit W C n (called (new_ring t d) t r)
+  unfolding called stack_base new_ring
   call_fits t d g l =
-      let x = g.within.ring-within in
-      fit-called h 7 _ _
+      let x = g.within.ring_within in
+      fit_called h 7 _ _
       (record {
-        ring-within = omega arith;
-        segment-within = cond-holds (λ s. s ≤ 4095) (eqb _ r.ipr.ring) (λ _. (pr-within h 6).segment-within) (λ _. omega arith);
-        word-within = omega arith;
+        ring_within = omega arith;
+        segment_within = cond_holds (λ s. s ≤ 4095) (eqb _ r.ipr.ring) (λ _. (pr_within h 6).segment_within) (λ _. omega arith);
+        word_within = omega arith;
       })
-      (record { ring-within = omega arith; segment-within = g.within.segment-within; word-within = g.within.word-within }) (omega arith) l
+      (record { ring_within = omega arith; segment_within = g.within.segment_within; word_within = g.within.word_within }) (omega arith) l
 
-  transfer-fits : (t : Pointer) → Formed r t → t.ring ≡ r.ipr.ring → Fit W C n (with-ipr t r)
-  transfer-fits t g e =
-      fit-with-ipr h t g.within (subst (λ k. rings-at-least k r.prs ≡ true) (sym e) h.pointers-fit.rings-kept)
+  transfer_fits : (t : Pointer) → Formed r t → t.ring ≡ r.ipr.ring → Fit W C n (with_ipr t r)
+  transfer_fits t g e =
+      fit_with_ipr h t g.within (subst (λ k. rings_at_least k r.prs ≡ true) (sym e) h.pointers_fit.rings_kept)
 
   -- the words of a frame, as many as were asked for
-  words-leave : (count : ℕ) (t : Pointer) (f : List ℕ → Program) → ((ws : List ℕ) → length ws ≡ count → Each-word W ws → Leaves W (Fit W C n) (f ws)) →
-      Leaves W (Fit W C n) (read-words count t f)
-  unfolding read-words Leaves
-  words-leave zero t f k = k [] refl (λ x. word 0 (lit≤ tt))
-  words-leave (suc c) t f k = λ d w b e q. words-leave c _ _ (λ ws l g. k (w ∷ ws) (ap suc l) (each_more w ws e g))
+  words_leave : (count : ℕ) (t : Pointer) (f : List ℕ → Program) → ((ws : List ℕ) → length ws ≡ count → EachWord W ws → Leaves W (Fit W C n) (f ws)) →
+      Leaves W (Fit W C n) (read_words count t f)
+  unfolding read_words Leaves
+  words_leave zero t f k = k [] refl (λ x. word 0 (lit≤ tt))
+  words_leave (suc c) t f k = λ d w b e q. words_leave c _ _ (λ ws l g. k (w ∷ ws) (ap suc l) (each_more w ws e g))
     where
-      each_more : (w : ℕ) (ws : List ℕ) → W w → Each-word W ws → Each-word W (w ∷ ws)
+      each_more : (w : ℕ) (ws : List ℕ) → W w → EachWord W ws → EachWord W (w ∷ ws)
       each_more w ws e g zero = e
       each_more w ws e g (suc x) = g x
 
-  pointers-in-range : (ws : List ℕ) → all pointer-in-range (map pointer_in ws) ≡ true
+  pointers_in_range : (ws : List ℕ) → all pointer_in_range (map pointer_in ws) ≡ true
   unfolding all
-  pointers-in-range [] = refl
-  pointers-in-range (w ∷ ws) = and_both (pointer-in-range (pointer_in w)) _ (within-in-range _ (pointer-in-within w)) (pointers-in-range ws)
+  pointers_in_range [] = refl
+  pointers_in_range (w ∷ ws) = and_both (pointer_in_range (pointer_in w)) _ (within_in_range _ (pointer_in_within w)) (pointers_in_range ws)
 
-  prs-of-frame : (ws : List ℕ) → length ws ≡ 13 → length (map pointer_in (take 8 (drop 5 ws))) ≡ 8
-  prs-of-frame ws l = length-map (take 8 (drop 5 ws)) pointer_in ∙ length-take-le 8 (drop 5 ws) (let z = length-drop 5 ws in omega arith)
+  prs_of_frame : (ws : List ℕ) → length ws ≡ 13 → length (map pointer_in (take 8 (drop 5 ws))) ≡ 8
+  prs_of_frame ws l = length-map (take 8 (drop 5 ws)) pointer_in ∙ length-take-le 8 (drop 5 ws) (let z = length-drop 5 ws in omega arith)
 
-  pub taken-leaves : (t : Pointer) (ws : List ℕ) → length ws ≡ 13 → Each-word W ws → Leaves W (Fit W C n) (take-up n t (registers-in ws))
-  unfolding take-up registers-in if-dbr-fits Leaves
-  taken-leaves t ws l e =
+  pub taken_leaves : (t : Pointer) (ws : List ℕ) → length ws ≡ 13 → EachWord W ws → Leaves W (Fit W C n) (take_up n t (registers_in ws))
+  unfolding take_up registers_in if_dbr_fits Leaves
+  taken_leaves t ws l e =
       let ipr = pointer_in (get_or ws 4 0) in
       let prs = map pointer_in (take 8 (drop 5 ws)) in
-      cond-holds (Leaves W (Fit W C n)) (dbr-fits n (dbr-in (get_or ws 3 0)))
+      cond_holds (Leaves W (Fit W C n)) (dbr_fits n (dbr_in (get_or ws 3 0)))
       (λ fits.
-      cond-holds (Leaves W (Fit W C n)) (rings-at-least ipr.ring prs)
+      cond_holds (Leaves W (Fit W C n)) (rings_at_least ipr.ring prs)
       (λ kept.
       record {
-        a-has = e 2;
-        dbr-fit = loaded-dbr-fit n (get_or ws 3 0) fits;
-        pointers-fit =
+        a_has = e 2;
+        dbr_fit = loaded_dbr_fit n (get_or ws 3 0) fits;
+        pointers_fit =
             record {
-              ipr-within = pointer-in-within (get_or ws 4 0);
-              prs-in-range = pointers-in-range (take 8 (drop 5 ws));
-              rings-kept = kept;
-              prs-count = subst C (sym (prs-of-frame ws l)) eight;
+              ipr_within = pointer_in_within (get_or ws 4 0);
+              prs_in_range = pointers_in_range (take 8 (drop 5 ws));
+              rings_kept = kept;
+              prs_count = subst C (sym (prs_of_frame ws l)) eight;
             };
       }) (λ _. tt)) (λ _. tt)
 
-  pub perform-leaves : (k : Access) → Keeps-fit W C k → (w : ℕ) (t : Pointer) → Formed r t → Leaves W (Fit W C n) (perform n k (instruction-in w) r t)
-  unfolding load store update transfer check-call call return if-dbr-fits load-dbr restore perform Leaves Keeps-fit
-  perform-leaves (sets f) s w t g = fit-advanced (s n w t r h g)
-  perform-leaves (reads f) s w t g = λ d v b e q. fit-advanced (fit-with-a h _ (s r.a v e))
-  perform-leaves (writes f) s w t g = (s n (instruction-in w) r h, fit-advanced h)
-  perform-leaves (updates f) s w t g = λ d v b e q. (s v, fit-advanced h)
-  perform-leaves (transfers f) s w t g =
-      cond-holds (Leaves W (Fit W C n)) (f r.a) (λ _ d b q. transfer-fits t g (transfer-keeps-ring r.ipr t d q)) (λ _. fit-advanced h)
-  perform-leaves calls s w t g = λ d b q. call_fits t d g (call-ring-at-most r.ipr t d q)
-  perform-leaves returns s w t g = λ d b q. fit-returned h t g.within
-  perform-leaves loads-dbr s w t g =
+  pub perform_leaves : (k : Access) → KeepsFit W C k → (w : ℕ) (t : Pointer) → Formed r t → Leaves W (Fit W C n) (perform n k (instruction_in w) r t)
+  unfolding load store update transfer check_call call return if_dbr_fits load_dbr restore perform Leaves KeepsFit
+  perform_leaves (sets f) s w t g = fit_advanced (s n w t r h g)
+  perform_leaves (reads f) s w t g = λ d v b e q. fit_advanced (fit_with_a h _ (s r.a v e))
+  perform_leaves (writes f) s w t g = (s n (instruction_in w) r h, fit_advanced h)
+  perform_leaves (updates f) s w t g = λ d v b e q. (s v, fit_advanced h)
+  perform_leaves (transfers f) s w t g =
+      cond_holds (Leaves W (Fit W C n)) (f r.a) (λ _ d b q. transfer_fits t g (transfer_keeps_ring r.ipr t d q)) (λ _. fit_advanced h)
+  perform_leaves calls s w t g = λ d b q. call_fits t d g (call_ring_at_most r.ipr t d q)
+  perform_leaves returns s w t g = λ d b q. fit_returned h t g.within
+  perform_leaves loads_dbr s w t g =
       λ d v b e q.
-      cond-holds (Leaves W (Fit W C n)) (dbr-fits n (dbr-in v)) (λ l. fit-advanced (fit-with-dbr h (dbr-in v) (loaded-dbr-fit n v l))) (λ _. tt)
-  perform-leaves ends-run s w t g = fit-advanced h
-  perform-leaves restores s w t g = λ d b q. words-leave 13 t _ (λ ws l e. taken-leaves t ws l e)
+      cond_holds (Leaves W (Fit W C n)) (dbr_fits n (dbr_in v)) (λ l. fit_advanced (fit_with_dbr h (dbr_in v) (loaded_dbr_fit n v l))) (λ _. tt)
+  perform_leaves ends_run s w t g = fit_advanced h
+  perform_leaves restores s w t g = λ d b q. words_leave 13 t _ (λ ws l e. taken_leaves t ws l e)
 
   -- THE STEP
-  obey-leaves : (w : ℕ) (o : Option Opcode) → If-there (λ x. Keeps-fit W C x.access) o → Leaves W (Fit W C n) (obey n r (instruction-in w) o)
+  obey_leaves : (w : ℕ) (o : Option Opcode) → IfThere (λ x. KeepsFit W C x.access) o → Leaves W (Fit W C n) (obey n r (instruction_in w) o)
   unfolding obey Leaves
-  obey-leaves w none s = tt
-  obey-leaves w (some o) s =
-      cond-holds (Leaves W (Fit W C n)) (not o.privileged || eqb r.ipr.ring 0)
-      (λ _. operand-leaves o (instruction-in w) _ (λ t g. perform-leaves o.access s w t g)) (λ _. tt)
+  obey_leaves w none s = tt
+  obey_leaves w (some o) s =
+      cond_holds (Leaves W (Fit W C n)) (not o.privileged || eqb r.ipr.ring 0)
+      (λ _. operand_leaves o (instruction_in w) _ (λ t g. perform_leaves o.access s w t g)) (λ _. tt)
 
-  step-leaves : Leaves W (Fit W C n) (step-program n r)
-  unfolding step-program Leaves
-  step-leaves = λ d w b e q. obey-leaves w _ (decoded-has (λ o. Keeps-fit W C o.access) _ (table-keeps-fit W C word))
+  step_leaves : Leaves W (Fit W C n) (step_program n r)
+  unfolding step_program Leaves
+  step_leaves = λ d w b e q. obey_leaves w _ (decoded_has (λ o. KeepsFit W C o.access) _ (table_keeps_fit W C word))
 
 -- 1 TO 4
 module _ {W C : ℕ → Type 0} (v : Delivery) where
-  pub passing-fits : (m : Machine) → start-questions v m ≡ 0 → W m.registers.a → C (length m.registers.prs) → Fit W C (length m.memory) m.registers
-  unfolding start-questions registers-in-range
-  passing-fits m e a count =
+  pub passing_fits : (m : Machine) → start_questions v m ≡ 0 → W m.registers.a → C (length m.registers.prs) → Fit W C (length m.memory) m.registers
+  unfolding start_questions registers_in_range
+  passing_fits m e a count =
       let r = m.registers in
-      let one = (ask-yes _ _ _ e).1 in
-      let two = ask-yes _ _ _ one in
-      let three = ask-yes _ _ _ two.1 in
-      let four = (ask-yes _ _ _ three.1).0 in
-      let rest = and_right (pointer-in-range r.ipr) _ two.0 in
+      let one = (ask_yes _ _ _ e).1 in
+      let two = ask_yes _ _ _ one in
+      let three = ask_yes _ _ _ two.1 in
+      let four = (ask_yes _ _ _ three.1).0 in
+      let rest = and_right (pointer_in_range r.ipr) _ two.0 in
       record {
-        a-has = a;
-        dbr-fit =
-            record { address-within = leb-true _ _ (and_left (leb r.dbr.address 16777215) _ (and_right (all pointer-in-range r.prs) _ rest)); fits = four };
-        pointers-fit =
+        a_has = a;
+        dbr_fit =
+            record { address_within = leb-true _ _ (and_left (leb r.dbr.address 16777215) _ (and_right (all pointer_in_range r.prs) _ rest)); fits = four };
+        pointers_fit =
             record {
-              ipr-within = in-range-within r.ipr (and_left (pointer-in-range r.ipr) _ two.0);
-              prs-in-range = and_left (all pointer-in-range r.prs) _ rest;
-              rings-kept = three.0;
-              prs-count = count;
+              ipr_within = in_range_within r.ipr (and_left (pointer_in_range r.ipr) _ two.0);
+              prs_in_range = and_left (all pointer_in_range r.prs) _ rest;
+              rings_kept = three.0;
+              prs_count = count;
             };
       }
 
-  pub fits-pass : (m : Machine) → delivery-in-range v ≡ true → memory-fits (length m.memory) ≡ true → Fit W C (length m.memory) m.registers → start-questions v m ≡ 0
-  unfolding start-questions registers-in-range ask
-  fits-pass m range one h =
-      let ps = h.pointers-fit in
-      rw (one, within-in-range _ ps.ipr-within, ps.prs-in-range, le-leb _ _ h.dbr-fit.address-within, range, ps.rings-kept, h.dbr-fit.fits)
+  pub fits_pass : (m : Machine) → delivery_in_range v ≡ true → memory_fits (length m.memory) ≡ true → Fit W C (length m.memory) m.registers → start_questions v m ≡ 0
+  unfolding start_questions registers_in_range ask
+  fits_pass m range one h =
+      let ps = h.pointers_fit in
+      rw (one, within_in_range _ ps.ipr_within, ps.prs_in_range, le-leb _ _ h.dbr_fit.address_within, range, ps.rings_kept, h.dbr_fit.fits)
 
-pub memory-passes : (v : Delivery) (m : Machine) → start-questions v m ≡ 0 → memory-fits (length m.memory) ≡ true
-unfolding start-questions
-memory-passes v m e = (ask-yes _ _ _ e).0
+pub memory_passes : (v : Delivery) (m : Machine) → start_questions v m ≡ 0 → memory_fits (length m.memory) ≡ true
+unfolding start_questions
+memory_passes v m e = (ask_yes _ _ _ e).0
 
-pub delivery-passes : (v : Delivery) (m : Machine) → start-questions v m ≡ 0 → delivery-in-range v ≡ true
-unfolding start-questions registers-in-range
-delivery-passes v m e =
+pub delivery_passes : (v : Delivery) (m : Machine) → start_questions v m ≡ 0 → delivery_in_range v ≡ true
+unfolding start_questions registers_in_range
+delivery_passes v m e =
     let r = m.registers in
-    let two = (ask-yes _ _ _ (ask-yes _ _ _ e).1).0 in
-    and_right (leb r.dbr.address 16777215) _ (and_right (all pointer-in-range r.prs) _ (and_right (pointer-in-range r.ipr) _ two))
+    let two = (ask_yes _ _ _ (ask_yes _ _ _ e).1).0 in
+    and_right (leb r.dbr.address 16777215) _ (and_right (all pointer_in_range r.prs) _ (and_right (pointer_in_range r.ipr) _ two))
 
 -- WHAT A COMPLETED STEP LEAVES
 pub record Still (W C : ℕ → Type 0) (v : Delivery) (m k : Machine) : Type 0 where
-  pub passes : start-questions v k ≡ 0
-  pub a-has : W k.registers.a
-  pub words-have : Each-word W k.memory
-  pub size-kept : length k.memory ≡ length m.memory
-  pub prs-count : C (length k.registers.prs)
+  pub passes : start_questions v k ≡ 0
+  pub a_has : W k.registers.a
+  pub words_have : EachWord W k.memory
+  pub size_kept : length k.memory ≡ length m.memory
+  pub prs_count : C (length k.registers.prs)
 
-module _ {W C : ℕ → Type 0} (word : (v : ℕ) → v < 2 ^ 64 → W v) (eight : C 8) (v : Delivery) (m : Machine) (e : start-questions v m ≡ 0)
-    (a : W m.registers.a) (count : C (length m.registers.prs)) (ws : Each-word W m.memory) where
+module _ {W C : ℕ → Type 0} (word : (v : ℕ) → v < 2 ^ 64 → W v) (eight : C 8) (v : Delivery) (m : Machine) (e : start_questions v m ≡ 0)
+    (a : W m.registers.a) (count : C (length m.registers.prs)) (ws : EachWord W m.memory) where
   pub still : (k : Machine) → Left W (Fit W C (length m.memory)) (length m.memory) k → Still W C v m k
   still k l =
-      let same = l.size-kept in
-      let fit = subst (λ n. Fit W C n k.registers) (sym same) l.registers-have in
+      let same = l.size_kept in
+      let fit = subst (λ n. Fit W C n k.registers) (sym same) l.registers_have in
       record {
-        passes = fits-pass v k (delivery-passes v m e) (subst (λ n. memory-fits n ≡ true) (sym same) (memory-passes v m e)) fit;
-        a-has = fit.a-has;
-        words-have = l.words-have;
-        size-kept = same;
-        prs-count = fit.pointers-fit.prs-count;
+        passes = fits_pass v k (delivery_passes v m e) (subst (λ n. memory_fits n ≡ true) (sym same) (memory_passes v m e)) fit;
+        a_has = fit.a_has;
+        words_have = l.words_have;
+        size_kept = same;
+        prs_count = fit.pointers_fit.prs_count;
       }
 
-  pub step_left : Outcome-left W (Fit W C (length m.memory)) (length m.memory) (step m)
+  pub step_left : OutcomeLeft W (Fit W C (length m.memory)) (length m.memory) (step m)
   unfolding step
-  step_left = leaves-law W _ m ws (step-program (length m.memory) m.registers) (step-leaves word eight (passing-fits v m e a count))
+  step_left = leaves_law W _ m ws (step_program (length m.memory) m.registers) (step_leaves word eight (passing_fits v m e a count))

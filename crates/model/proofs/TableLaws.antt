@@ -32,53 +32,53 @@ pub record Each (P : Opcode → Type 0) : Type 0 where
   pub rcu : P RCU
 
 -- of an opcode, where there is one
-abbrev pub If-there : (Opcode → Type 0) → Option Opcode → Type 0
-If-there P none = Unit {0}
-If-there P (some o) = P o
+abbrev pub IfThere : (Opcode → Type 0) → Option Opcode → Type 0
+IfThere P none = Unit {0}
+IfThere P (some o) = P o
 
 -- OF EVERY OPCODE THAT DECODES
 module _ (P : Opcode → Type 0) (n : ℕ) where
-  on-entry : (o : Opcode) (os : List Opcode) → P o → If-there P (entry n os) → If-there P (entry n (o ∷ os))
+  on_entry : (o : Opcode) (os : List Opcode) → P o → IfThere P (entry n os) → IfThere P (entry n (o ∷ os))
   unfolding entry
-  on-entry o os h k = by-test (eqb n o.number)
+  on_entry o os h k = by_test (eqb n o.number)
     where
-      by-test : (b : Bool) → If-there P (cond b (some o) (entry n os))
-      by-test true = h
-      by-test false = k
+      by_test : (b : Bool) → IfThere P (cond b (some o) (entry n os))
+      by_test true = h
+      by_test false = k
 
-  no-entry : If-there P (entry n [])
+  no_entry : IfThere P (entry n [])
   unfolding entry
-  no-entry = tt
+  no_entry = tt
 
-  pub decoded-has : Each P → If-there P (decoded n)
+  pub decoded_has : Each P → IfThere P (decoded n)
   unfolding decoded opcodes
-  decoded-has e =
-      on-entry LDA _ e.lda (on-entry STA _ e.sta (on-entry ADA _ e.ada (on-entry SBA _ e.sba (on-entry ANA _ e.ana
-      (on-entry ORA _ e.ora (on-entry XRA _ e.xra (on-entry CNT _ e.cnt (on-entry AOS _ e.aos (on-entry LDI _ e.ldi
-      (on-entry EAP _ e.eap (on-entry SPP _ e.spp (on-entry TRA _ e.tra (on-entry TZE _ e.tze (on-entry TMI _ e.tmi
-      (on-entry CALL _ e.call (on-entry RETURN _ e.return (on-entry LDBR _ e.ldbr (on-entry HLT _ e.hlt (on-entry RCU _ e.rcu no-entry)))))))))))))))))))
+  decoded_has e =
+      on_entry LDA _ e.lda (on_entry STA _ e.sta (on_entry ADA _ e.ada (on_entry SBA _ e.sba (on_entry ANA _ e.ana
+      (on_entry ORA _ e.ora (on_entry XRA _ e.xra (on_entry CNT _ e.cnt (on_entry AOS _ e.aos (on_entry LDI _ e.ldi
+      (on_entry EAP _ e.eap (on_entry SPP _ e.spp (on_entry TRA _ e.tra (on_entry TZE _ e.tze (on_entry TMI _ e.tmi
+      (on_entry CALL _ e.call (on_entry RETURN _ e.return (on_entry LDBR _ e.ldbr (on_entry HLT _ e.hlt (on_entry RCU _ e.rcu no_entry)))))))))))))))))))
 
 -- and it has the number that decodes to it
-entry-has-number : (n : ℕ) (os : List Opcode) → If-there (λ o. n ≡ o.number) (entry n os)
+entry_has_number : (n : ℕ) (os : List Opcode) → IfThere (λ o. n ≡ o.number) (entry n os)
 unfolding entry
-entry-has-number n [] = tt
-entry-has-number n (o ∷ os) = by-test (eqb n o.number) refl (entry-has-number n os)
+entry_has_number n [] = tt
+entry_has_number n (o ∷ os) = by_test (eqb n o.number) refl (entry_has_number n os)
   where
-    by-test : (b : Bool) → eqb n o.number ≡ b → If-there (λ x. n ≡ x.number) (entry n os) → If-there (λ x. n ≡ x.number) (cond b (some o) (entry n os))
-    by-test true e h = eqb-true n o.number e
-    by-test false e h = h
+    by_test : (b : Bool) → eqb n o.number ≡ b → IfThere (λ x. n ≡ x.number) (entry n os) → IfThere (λ x. n ≡ x.number) (cond b (some o) (entry n os))
+    by_test true e h = eqb-true n o.number e
+    by_test false e h = h
 
-pub decoded-has-number : (n : ℕ) → If-there (λ o. n ≡ o.number) (decoded n)
+pub decoded_has_number : (n : ℕ) → IfThere (λ o. n ≡ o.number) (decoded n)
 unfolding decoded
-decoded-has-number n = entry-has-number n opcodes
+decoded_has_number n = entry_has_number n opcodes
 
 -- OF EVERY NUMBER: one that the table has, or one that it has not
 abbrev pub Outside : (number : ℕ) → Type 0
 Outside n = Each (λ o. n ≡ o.number → ⊥)
 
-pub outside-not-decoded : (n : ℕ) → Outside n → decoded n ≡ none
+pub outside_not_decoded : (n : ℕ) → Outside n → decoded n ≡ none
 unfolding decoded opcodes entry LDA STA ADA SBA ANA ORA XRA CNT AOS LDI EAP SPP TRA TZE TMI CALL RETURN LDBR HLT RCU
-outside-not-decoded n out =
+outside_not_decoded n out =
     rw (
       ne_eqb n 1 out.lda,
       ne_eqb n 2 out.sta,
@@ -102,54 +102,54 @@ outside-not-decoded n out =
       ne_eqb n 42 out.rcu,
     ) refl
 
-on-number : (P : ℕ → Type 0) (n : ℕ) (o : Opcode) → P o.number → ((n ≡ o.number → ⊥) → P n) → P n
-on-number P n o h other = by-test (eqb n o.number) refl
+on_number : (P : ℕ → Type 0) (n : ℕ) (o : Opcode) → P o.number → ((n ≡ o.number → ⊥) → P n) → P n
+on_number P n o h other = by_test (eqb n o.number) refl
   where
-    by-test : (b : Bool) → eqb n o.number ≡ b → P n
-    by-test true e = subst P (sym (eqb-true n o.number e)) h
-    by-test false e = other (eqb-false n o.number e)
+    by_test : (b : Bool) → eqb n o.number ≡ b → P n
+    by_test true e = subst P (sym (eqb-true n o.number e)) h
+    by_test false e = other (eqb-false n o.number e)
 
 pub each_number : (P : ℕ → Type 0) → Each (λ o. P o.number) → ((n : ℕ) → Outside n → P n) → (n : ℕ) → P n
 each_number P e other n =
-    on-number P n LDA e.lda λ not-lda.
-    on-number P n STA e.sta λ not-sta.
-    on-number P n ADA e.ada λ not-ada.
-    on-number P n SBA e.sba λ not-sba.
-    on-number P n ANA e.ana λ not-ana.
-    on-number P n ORA e.ora λ not-ora.
-    on-number P n XRA e.xra λ not-xra.
-    on-number P n CNT e.cnt λ not-cnt.
-    on-number P n AOS e.aos λ not-aos.
-    on-number P n LDI e.ldi λ not-ldi.
-    on-number P n EAP e.eap λ not-eap.
-    on-number P n SPP e.spp λ not-spp.
-    on-number P n TRA e.tra λ not-tra.
-    on-number P n TZE e.tze λ not-tze.
-    on-number P n TMI e.tmi λ not-tmi.
-    on-number P n CALL e.call λ not_call.
-    on-number P n RETURN e.return λ not-return.
-    on-number P n LDBR e.ldbr λ not-ldbr.
-    on-number P n HLT e.hlt λ not-hlt.
-    on-number P n RCU e.rcu λ not-rcu.
+    on_number P n LDA e.lda λ not_lda.
+    on_number P n STA e.sta λ not_sta.
+    on_number P n ADA e.ada λ not_ada.
+    on_number P n SBA e.sba λ not_sba.
+    on_number P n ANA e.ana λ not_ana.
+    on_number P n ORA e.ora λ not_ora.
+    on_number P n XRA e.xra λ not_xra.
+    on_number P n CNT e.cnt λ not_cnt.
+    on_number P n AOS e.aos λ not_aos.
+    on_number P n LDI e.ldi λ not_ldi.
+    on_number P n EAP e.eap λ not_eap.
+    on_number P n SPP e.spp λ not_spp.
+    on_number P n TRA e.tra λ not_tra.
+    on_number P n TZE e.tze λ not_tze.
+    on_number P n TMI e.tmi λ not_tmi.
+    on_number P n CALL e.call λ not_call.
+    on_number P n RETURN e.return λ not_return.
+    on_number P n LDBR e.ldbr λ not_ldbr.
+    on_number P n HLT e.hlt λ not_hlt.
+    on_number P n RCU e.rcu λ not_rcu.
     other n record {
-      lda = not-lda;
-      sta = not-sta;
-      ada = not-ada;
-      sba = not-sba;
-      ana = not-ana;
-      ora = not-ora;
-      xra = not-xra;
-      cnt = not-cnt;
-      aos = not-aos;
-      ldi = not-ldi;
-      eap = not-eap;
-      spp = not-spp;
-      tra = not-tra;
-      tze = not-tze;
-      tmi = not-tmi;
+      lda = not_lda;
+      sta = not_sta;
+      ada = not_ada;
+      sba = not_sba;
+      ana = not_ana;
+      ora = not_ora;
+      xra = not_xra;
+      cnt = not_cnt;
+      aos = not_aos;
+      ldi = not_ldi;
+      eap = not_eap;
+      spp = not_spp;
+      tra = not_tra;
+      tze = not_tze;
+      tmi = not_tmi;
       call = not_call;
-      return = not-return;
-      ldbr = not-ldbr;
-      hlt = not-hlt;
-      rcu = not-rcu;
+      return = not_return;
+      ldbr = not_ldbr;
+      hlt = not_hlt;
+      rcu = not_rcu;
     }

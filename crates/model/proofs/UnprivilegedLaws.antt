@@ -2,30 +2,30 @@
 use mathlib.Core.Path.{◌≡◌, refl}
 use mathlib.Core.Bool.{false, true≢false}
 use Rattle.model.specs.Words.{Pointer, Instruction}
-use Rattle.model.specs.Registers.{Registers, with-a, with-prs, with-pr}
-use Rattle.model.specs.Opcodes.{Access, sets, reads, writes, updates, transfers, calls, returns, loads-dbr, ends-run, restores, Opcode, LDA, STA, ADA, SBA, ANA, ORA, XRA, CNT, AOS, LDI, EAP, SPP, TRA, TZE, TMI, CALL, RETURN, LDBR, HLT, RCU}
+use Rattle.model.specs.Registers.{Registers, with_a, with_prs, with_pr}
+use Rattle.model.specs.Opcodes.{Access, sets, reads, writes, updates, transfers, calls, returns, loads_dbr, ends_run, restores, Opcode, LDA, STA, ADA, SBA, ANA, ORA, XRA, CNT, AOS, LDI, EAP, SPP, TRA, TZE, TMI, CALL, RETURN, LDBR, HLT, RCU}
 use Rattle.model.proofs.TableLaws.{Each}
 
 -- any access but DBR's load, the run's end and a frame's restoring; one that sets registers keeps DBR and IPR; and only CALL calls
-unfoldable pub Unprivileged-access : Opcode → Access → Type 0
-Unprivileged-access o (sets f) = (i : Instruction) (t : Pointer) (r : Registers) → (r.dbr ≡ (f i t r).dbr) × (r.ipr ≡ (f i t r).ipr)
-Unprivileged-access o (reads f) = Unit {0}
-Unprivileged-access o (writes f) = Unit {0}
-Unprivileged-access o (updates f) = Unit {0}
-Unprivileged-access o (transfers f) = Unit {0}
-Unprivileged-access o calls = o ≡ CALL
-Unprivileged-access o returns = Unit {0}
-Unprivileged-access o loads-dbr = ⊥
-Unprivileged-access o ends-run = ⊥
-Unprivileged-access o restores = ⊥
+unfoldable pub UnprivilegedAccess : Opcode → Access → Type 0
+UnprivilegedAccess o (sets f) = (i : Instruction) (t : Pointer) (r : Registers) → (r.dbr ≡ (f i t r).dbr) × (r.ipr ≡ (f i t r).ipr)
+UnprivilegedAccess o (reads f) = Unit {0}
+UnprivilegedAccess o (writes f) = Unit {0}
+UnprivilegedAccess o (updates f) = Unit {0}
+UnprivilegedAccess o (transfers f) = Unit {0}
+UnprivilegedAccess o calls = o ≡ CALL
+UnprivilegedAccess o returns = Unit {0}
+UnprivilegedAccess o loads_dbr = ⊥
+UnprivilegedAccess o ends_run = ⊥
+UnprivilegedAccess o restores = ⊥
 
-unfoldable pub If-unprivileged : Opcode → Type 0
-If-unprivileged o = o.privileged ≡ false → Unprivileged-access o o.access
+unfoldable pub IfUnprivileged : Opcode → Type 0
+IfUnprivileged o = o.privileged ≡ false → UnprivilegedAccess o o.access
 
 -- LDBR, HLT and RCU are privileged
-pub unprivileged-accesses : Each If-unprivileged
-unfolding If-unprivileged Unprivileged-access LDA STA ADA SBA ANA ORA XRA CNT AOS LDI EAP SPP TRA TZE TMI CALL RETURN LDBR HLT RCU with-a with-pr with-prs
-unprivileged-accesses =
+pub unprivileged_accesses : Each IfUnprivileged
+unfolding IfUnprivileged UnprivilegedAccess LDA STA ADA SBA ANA ORA XRA CNT AOS LDI EAP SPP TRA TZE TMI CALL RETURN LDBR HLT RCU with_a with_pr with_prs
+unprivileged_accesses =
     record {
       lda = λ u. tt;
       sta = λ u. tt;

@@ -1,10 +1,10 @@
 -- 02, L8: a table for who may do what. Its rows set brackets and flags of every descriptor. Assumes nothing: these are definitions.
 use Rattle.std.specs.Prelude.{Bool, ◌&&◌, cond, List, [], ◌∷◌, ℕ, zero, suc, ◌+◌, ◌*◌, ◌/◌, ◌%◌, ◌^◌, eqb, leb, ltb, length, get_or, set, drop}
 use Rattle.model.specs.Registers.{Registers, Dbr, Delivery, machine}
-use Rattle.model.specs.Questions.{yes-to-all, ask, then-ask, all, memory-fits, dbr-fits}
-use Rattle.model.specs.Image.{number_at, Image, refused-image, loaded, image}
-use Rattle.model.specs.Listing.{refusal-line}
-use Rattle.model.specs.Write.{written-image}
+use Rattle.model.specs.Questions.{yes_to_all, ask, then_ask, all, memory_fits, dbr_fits}
+use Rattle.model.specs.Image.{number_at, Image, refused_image, loaded, image}
+use Rattle.model.specs.Listing.{refusal_line}
+use Rattle.model.specs.Write.{written_image}
 
 -- THE TABLE. A flag is off at 0, and on at any other number
 pub record Row : Type 0 where
@@ -35,34 +35,34 @@ unfoldable pub table_fits : (segments : ℕ) → List Row → Bool
 table_fits l rows = leb (length rows) 32 && all (row_fits l) rows
 
 -- 54: is a segment in a row? 55: in no other?
-unfoldable pub one-row : (its-rows : List Row) → ℕ
-one-row [] = 54
-one-row (r ∷ []) = yes-to-all
-one-row (r ∷ q ∷ rs) = 55
+unfoldable pub one_row : (its_rows : List Row) → ℕ
+one_row [] = 54
+one_row (r ∷ []) = yes_to_all
+one_row (r ∷ q ∷ rs) = 55
 
 -- of so many segments from one on; the lowest at fault decides
-unfoldable pub segments-questions : (count segment : ℕ) → List Row → ℕ
-segments-questions zero s rows = yes-to-all
-segments-questions (suc n) s rows = then-ask (one-row (rows_of s rows)) (segments-questions n (suc s) rows)
+unfoldable pub segments_questions : (count segment : ℕ) → List Row → ℕ
+segments_questions zero s rows = yes_to_all
+segments_questions (suc n) s rows = then_ask (one_row (rows_of s rows)) (segments_questions n (suc s) rows)
 
 -- 1 and 4 come first
-unfoldable pub table-questions : (size : ℕ) → Dbr → List Row → ℕ
-table-questions n b rows =
-    ask (memory-fits n) 1 (ask (dbr-fits n b) 4 (ask (table_fits b.length rows) 53 (segments-questions b.length 0 rows)))
+unfoldable pub table_questions : (size : ℕ) → Dbr → List Row → ℕ
+table_questions n b rows =
+    ask (memory_fits n) 1 (ask (dbr_fits n b) 4 (ask (table_fits b.length rows) 53 (segments_questions b.length 0 rows)))
 
 -- WHAT IS WRITTEN: bits 40 to 51 of a descriptor, R1, R2, R3, R, W and E; its other bits stay
-unfoldable pub flag-bit : ℕ → ℕ
-flag-bit n = cond (eqb n 0) 0 1
+unfoldable pub flag_bit : ℕ → ℕ
+flag_bit n = cond (eqb n 0) 0 1
 
-unfoldable pub bracket-bits : Row → ℕ
-bracket-bits r = r.r1 + 8 * r.r2 + 64 * r.r3 + 512 * flag-bit r.read + 1024 * flag-bit r.write + 2048 * flag-bit r.execute
+unfoldable pub bracket_bits : Row → ℕ
+bracket_bits r = r.r1 + 8 * r.r2 + 64 * r.r3 + 512 * flag_bit r.read + 1024 * flag_bit r.write + 2048 * flag_bit r.execute
 
-unfoldable pub with-brackets : Row → (word : ℕ) → ℕ
-with-brackets r w = w % 2 ^ 40 + 2 ^ 40 * bracket-bits r + 2 ^ 52 * (w / 2 ^ 52)
+unfoldable pub with_brackets : Row → (word : ℕ) → ℕ
+with_brackets r w = w % 2 ^ 40 + 2 ^ 40 * bracket_bits r + 2 ^ 52 * (w / 2 ^ 52)
 
-unfoldable pub by_row : (its-rows : List Row) → (word : ℕ) → ℕ
+unfoldable pub by_row : (its_rows : List Row) → (word : ℕ) → ℕ
 by_row [] w = w
-by_row (r ∷ rs) w = with-brackets r w
+by_row (r ∷ rs) w = with_brackets r w
 
 -- the descriptors of so many segments from one on
 unfoldable pub with_rows : (count segment : ℕ) → List Row → (address : ℕ) → (memory : List ℕ) → List ℕ
@@ -74,18 +74,18 @@ pub record Bracketed : Type 0 where
   pub answer : ℕ
   pub memory : List ℕ
 
-unfoldable pub set-brackets : (memory : List ℕ) → Dbr → List Row → Bracketed
-set-brackets m b rows =
-    let n = table-questions (length m) b rows in
+unfoldable pub set_brackets : (memory : List ℕ) → Dbr → List Row → Bracketed
+set_brackets m b rows =
+    let n = table_questions (length m) b rows in
     record { answer = n; memory = cond (eqb n 0) (with_rows b.length 0 rows b.address m) m }
 
 -- THE PROGRAM'S TEXT for an image: the image with its descriptors so set, or a refusal
-unfoldable pub bracketed-text : Delivery → Registers → (budget : ℕ) → Bracketed → List ℕ
-bracketed-text v r b x = cond (eqb x.answer 0) (written-image v (machine r x.memory) b) (refusal-line x.answer)
+unfoldable pub bracketed_text : Delivery → Registers → (budget : ℕ) → Bracketed → List ℕ
+bracketed_text v r b x = cond (eqb x.answer 0) (written_image v (machine r x.memory) b) (refusal_line x.answer)
 
-unfoldable pub image-bracketed : List Row → Image → List ℕ
-image-bracketed rows (refused-image n) = refusal-line n
-image-bracketed rows (loaded v m b) = bracketed-text v m.registers b (set-brackets m.memory m.registers.dbr rows)
+unfoldable pub image_bracketed : List Row → Image → List ℕ
+image_bracketed rows (refused_image n) = refusal_line n
+image_bracketed rows (loaded v m b) = bracketed_text v m.registers b (set_brackets m.memory m.registers.dbr rows)
 
 -- its input: how many rows in 2 bytes, each row in 10, high byte first, then the image. 41: are the rows whole?
 unfoldable pub row_at : (at : ℕ) → List ℕ → Row
@@ -105,8 +105,8 @@ unfoldable pub rows_at : (count at : ℕ) → List ℕ → List Row
 rows_at zero a bs = []
 rows_at (suc n) a bs = row_at a bs ∷ rows_at n (a + 10) bs
 
-unfoldable pub brackets-text : List ℕ → List ℕ
-brackets-text bs =
+unfoldable pub brackets_text : List ℕ → List ℕ
+brackets_text bs =
     let count = number_at 0 2 bs in
     let size = 2 + 10 * count in
-    cond (leb 2 (length bs) && leb size (length bs)) (image-bracketed (rows_at count 2 bs) (image (drop size bs))) (refusal-line 41)
+    cond (leb 2 (length bs) && leb size (length bs)) (image_bracketed (rows_at count 2 bs) (image (drop size bs))) (refusal_line 41)

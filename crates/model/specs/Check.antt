@@ -1,10 +1,10 @@
 -- 02, L5: may I call there? CALL's check as a call of its own, of any pointer. Assumes nothing: these are definitions.
 use Rattle.std.specs.Prelude.{ℕ, zero, suc, length}
 use Rattle.model.specs.Words.{Pointer}
-use Rattle.model.specs.Registers.{Delivery, Machine, with-ring-at-least}
-use Rattle.model.specs.Questions.{ask, memory-fits, pointer-in-range, start-questions, new-ring, call-questions}
-use Rattle.model.specs.Program.{descriptor-of, use-answer}
-use Rattle.model.specs.Run.{unless-refused}
+use Rattle.model.specs.Registers.{Delivery, Machine, with_ring_at_least}
+use Rattle.model.specs.Questions.{ask, memory_fits, pointer_in_range, start_questions, new_ring, call_questions}
+use Rattle.model.specs.Program.{descriptor_of, use_answer}
+use Rattle.model.specs.Run.{unless_refused}
 
 pub data Check : Type 0 where
   refused : (number : ℕ) → Check
@@ -18,12 +18,12 @@ answered zero t n = passes n
 answered (suc k) t n = fault (suc k) t
 
 unfoldable pub checked : Machine → Pointer → Check
-checked m t = answered (use-answer m t (call-questions m.registers.ipr t)) t (new-ring t (descriptor-of m t.segment))
+checked m t = answered (use_answer m t (call_questions m.registers.ipr t)) t (new_ring t (descriptor_of m t.segment))
 
 -- 1; 2, of the pointer as well; 3; 4
-unfoldable pub check-questions : Delivery → Machine → Pointer → ℕ
-check-questions v m p = ask (memory-fits (length m.memory)) 1 (ask (pointer-in-range p) 2 (start-questions v m))
+unfoldable pub check_questions : Delivery → Machine → Pointer → ℕ
+check_questions v m p = ask (memory_fits (length m.memory)) 1 (ask (pointer_in_range p) 2 (start_questions v m))
 
 -- then the pointer's ring is raised to at least IPR's, as a program's would be
 unfoldable pub check : Delivery → Machine → Pointer → Check
-check v m p = unless-refused (check-questions v m p) refused (checked m (with-ring-at-least m.registers.ipr.ring p))
+check v m p = unless_refused (check_questions v m p) refused (checked m (with_ring_at_least m.registers.ipr.ring p))

@@ -2,7 +2,7 @@
 use Rattle.std.specs.Prelude.{Bool, true, false, cond, List, [], ◌∷◌, ℕ, zero, suc, ◌+◌, ◌*◌, ◌-◌, ◌/◌, ◌%◌, ◌^◌, leb, eqb}
 use Rattle.std.proofs.Math.Option.{Option, none, some}
 use Rattle.model.specs.Words.{Pointer, pointer_word, Instruction}
-use Rattle.model.specs.Registers.{Registers, pr, with-a, with-pr}
+use Rattle.model.specs.Registers.{Registers, pr, with_a, with_pr}
 
 -- what an opcode does with its operand: the access, and what follows from it
 pub data Access : Type 0 where
@@ -19,8 +19,8 @@ pub data Access : Type 0 where
   calls : Access
   returns : Access
   -- read: DBR becomes the word
-  loads-dbr : Access
-  ends-run : Access
+  loads_dbr : Access
+  ends_run : Access
   -- read thirteen words: A, DBR, IPR and the PRs become theirs (02, L4)
   restores : Access
 
@@ -37,9 +37,9 @@ bitwise zero f a b = 0
 bitwise (suc n) f a b = f (a % 2) (b % 2) + 2 * bitwise n f (a / 2) (b / 2)
 
 -- the sum of the bits
-unfoldable pub count-of-ones : (bits word : ℕ) → ℕ
-count-of-ones zero w = 0
-count-of-ones (suc n) w = w % 2 + count-of-ones n (w / 2)
+unfoldable pub count_of_ones : (bits word : ℕ) → ℕ
+count_of_ones zero w = 0
+count_of_ones (suc n) w = w % 2 + count_of_ones n (w / 2)
 
 unfoldable pub sum : (a word : ℕ) → ℕ
 sum a w = (a + w) % 2 ^ 64
@@ -73,16 +73,16 @@ unfoldable pub XRA : Opcode
 XRA = unprivileged 7 (reads (bitwise 64 (λ x y. (x + y) % 2)))
 
 unfoldable pub CNT : Opcode
-CNT = unprivileged 8 (reads (λ a w. count-of-ones 64 w))
+CNT = unprivileged 8 (reads (λ a w. count_of_ones 64 w))
 
 unfoldable pub AOS : Opcode
 AOS = unprivileged 9 (updates (λ w. sum w 1))
 
 unfoldable pub LDI : Opcode
-LDI = record { number = 10; operand = false; privileged = false; access = sets (λ i t r. with-a i.lit r) }
+LDI = record { number = 10; operand = false; privileged = false; access = sets (λ i t r. with_a i.lit r) }
 
 unfoldable pub EAP : Opcode
-EAP = unprivileged 16 (sets (λ i t r. with-pr i.reg t r))
+EAP = unprivileged 16 (sets (λ i t r. with_pr i.reg t r))
 
 unfoldable pub SPP : Opcode
 SPP = unprivileged 17 (writes (λ i r. pointer_word (pr r i.reg)))
@@ -104,10 +104,10 @@ unfoldable pub RETURN : Opcode
 RETURN = unprivileged 33 returns
 
 unfoldable pub LDBR : Opcode
-LDBR = record { number = 40; operand = true; privileged = true; access = loads-dbr }
+LDBR = record { number = 40; operand = true; privileged = true; access = loads_dbr }
 
 unfoldable pub HLT : Opcode
-HLT = record { number = 41; operand = false; privileged = true; access = ends-run }
+HLT = record { number = 41; operand = false; privileged = true; access = ends_run }
 
 -- 02, L4: restore control unit
 unfoldable pub RCU : Opcode

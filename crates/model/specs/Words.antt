@@ -21,8 +21,8 @@ pub record Descriptor : Type 0 where
   pub valid : Bool
   pub gate : ℕ
 
-unfoldable pub descriptor-in : (word : ℕ) → Descriptor
-descriptor-in w =
+unfoldable pub descriptor_in : (word : ℕ) → Descriptor
+descriptor_in w =
     record {
       address = field 0 24 w;
       length = field 24 16 w;
@@ -46,8 +46,8 @@ pub record Pointer : Type 0 where
 unfoldable pub pointer_in : (word : ℕ) → Pointer
 pointer_in w = record { ring = field 28 3 w; segment = field 16 12 w; word = field 0 16 w }
 
-unfoldable pub indirect-in : (word : ℕ) → Bool
-indirect-in w = on 31 w
+unfoldable pub indirect_in : (word : ℕ) → Bool
+indirect_in w = on 31 w
 
 unfoldable pub pointer_word : Pointer → ℕ
 pointer_word p = p.word + 2 ^ 16 * p.segment + 2 ^ 28 * p.ring
@@ -62,8 +62,8 @@ pub record Instruction : Type 0 where
   pub opcode : ℕ
   pub lit : ℕ
 
-unfoldable pub instruction-in : (word : ℕ) → Instruction
-instruction-in w =
+unfoldable pub instruction_in : (word : ℕ) → Instruction
+instruction_in w =
     record {
       offset = field 0 16 w;
       prnum = field 16 3 w;

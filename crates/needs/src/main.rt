@@ -1,8 +1,8 @@
 // The laptop's program for what an image will need: an image on standard input, its needs on standard output.
 ghost use Rattle.std.specs.Prelude.{[], ◌∷◌, ◌++◌, ◌≤◌, ◌+◌, length};
 ghost use Rattle.model.specs.Listing.{decimal};
-ghost use Rattle.model.specs.Needs.{need-line, needs-lines};
-ghost use Rattle.sizing.specs.View.{as-needs};
+ghost use Rattle.model.specs.Needs.{need_line, needs_lines};
+ghost use Rattle.sizing.specs.View.{as_needs};
 ghost use Rattle.text.specs.Text.{Put};
 
 use image::load::LoadOutcome;
@@ -19,7 +19,7 @@ fn put_line(text: &mut [u8], at: usize, name: &[u8], v: u64) -> usize
 
 fn put_figures(text: &mut [u8], needs: Needs) -> usize
     requires { 150 ≤ length text.old }
-    ensures { Put 150 0 (need-line "memory" needs.memory ++ need-line "records" needs.records ++ need-line "budget" needs.budget ++ need-line "lines" needs.lines ++ need-line "pointers" needs.pointers) text.old text.new result }
+    ensures { Put 150 0 (need_line "memory" needs.memory ++ need_line "records" needs.records ++ need_line "budget" needs.budget ++ need_line "lines" needs.lines ++ need_line "pointers" needs.pointers) text.old text.new result }
 {
     let at_records = put_line(text, 0, b"memory ", needs.memory);
     let at_budget = put_line(text, at_records, b"records ", needs.records);
@@ -31,7 +31,7 @@ fn put_figures(text: &mut [u8], needs: Needs) -> usize
 // The five figures, a line each, or what refuses the image.
 fn put_needs(text: &mut [u8], needs: Needs) -> usize
     requires { 150 ≤ length text.old }
-    ensures { Put 150 0 (needs-lines (as-needs needs)) text.old text.new result }
+    ensures { Put 150 0 (needs_lines (as_needs needs)) text.old text.new result }
 {
     if needs.number != 0 {
         return put_line(text, 0, b"refused ", needs.number);

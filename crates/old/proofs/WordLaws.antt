@@ -3,43 +3,43 @@ use mathlib.Core.Path.{◌≡◌, sym, ap, ◌∙◌}
 use mathlib.Core.Bool.{Bool, true, false, ◌&&◌, ◌||◌}
 use Prim.Native.Nat.{ℕ, ◌/◌, ◌%◌}
 use lib.Dec.{eqb}
-use Rattle.model.specs.Words.{field, on, descriptor-in}
+use Rattle.model.specs.Words.{field, on, descriptor_in}
 use Rattle.model.specs.Questions.{ask}
-use Rattle.model.specs.Old.{rest-is-zero, rings-are, has-old-form, form-questions, renewed-word, old-word, converted-word}
-use Rattle.old.specs.View.{as-way}
+use Rattle.model.specs.Old.{rest_is_zero, rings_are, has_old_form, form_questions, renewed_word, old_word, converted_word}
+use Rattle.old.specs.View.{as_way}
 
 module _ {t b : Bool} (w : ℕ) where
-  pub old-form-passes : t ≡ true → b ≡ has-old-form (descriptor-in w) → b ≡ true → 0 ≡ form-questions (as-way t) w
-  unfolding as-way form-questions ask
-  old-form-passes e p q = sym (ap (λ x. form-questions (as-way x) w) e ∙ ap (λ x. ask x 57 0) (sym p ∙ q))
+  pub old_form_passes : t ≡ true → b ≡ has_old_form (descriptor_in w) → b ≡ true → 0 ≡ form_questions (as_way t) w
+  unfolding as_way form_questions ask
+  old_form_passes e p q = sym (ap (λ x. form_questions (as_way x) w) e ∙ ap (λ x. ask x 57 0) (sym p ∙ q))
 
-  pub old-form-fails : t ≡ true → b ≡ has-old-form (descriptor-in w) → b ≡ false → 57 ≡ form-questions (as-way t) w
-  unfolding as-way form-questions ask
-  old-form-fails e p q = sym (ap (λ x. form-questions (as-way x) w) e ∙ ap (λ x. ask x 57 0) (sym p ∙ q))
+  pub old_form_fails : t ≡ true → b ≡ has_old_form (descriptor_in w) → b ≡ false → 57 ≡ form_questions (as_way t) w
+  unfolding as_way form_questions ask
+  old_form_fails e p q = sym (ap (λ x. form_questions (as_way x) w) e ∙ ap (λ x. ask x 57 0) (sym p ∙ q))
 
-  pub rest-passes : t ≡ false → b ≡ rest-is-zero w → b ≡ true → 0 ≡ form-questions (as-way t) w
-  unfolding as-way form-questions ask
-  rest-passes e p q = sym (ap (λ x. form-questions (as-way x) w) e ∙ ap (λ x. ask x 56 0) (sym p ∙ q))
+  pub rest_passes : t ≡ false → b ≡ rest_is_zero w → b ≡ true → 0 ≡ form_questions (as_way t) w
+  unfolding as_way form_questions ask
+  rest_passes e p q = sym (ap (λ x. form_questions (as_way x) w) e ∙ ap (λ x. ask x 56 0) (sym p ∙ q))
 
-  pub rest-fails : t ≡ false → b ≡ rest-is-zero w → b ≡ false → 56 ≡ form-questions (as-way t) w
-  unfolding as-way form-questions ask
-  rest-fails e p q = sym (ap (λ x. form-questions (as-way x) w) e ∙ ap (λ x. ask x 56 0) (sym p ∙ q))
+  pub rest_fails : t ≡ false → b ≡ rest_is_zero w → b ≡ false → 56 ≡ form_questions (as_way t) w
+  unfolding as_way form_questions ask
+  rest_fails e p q = sym (ap (λ x. form_questions (as_way x) w) e ∙ ap (λ x. ask x 56 0) (sym p ∙ q))
 
-pub ruleset question-laws = (old-form-passes, old-form-fails, rest-passes, rest-fails)
+pub ruleset question_laws = (old_form_passes, old_form_fails, rest_passes, rest_fails)
 
 module _ {t : Bool} (w v : ℕ) where
-  pub converted-to-old : t ≡ true → v ≡ old-word w → v ≡ converted-word (as-way t) w
-  unfolding as-way converted-word
-  converted-to-old e p = p ∙ sym (ap (λ x. converted-word (as-way x) w) e)
+  pub converted_to_old : t ≡ true → v ≡ old_word w → v ≡ converted_word (as_way t) w
+  unfolding as_way converted_word
+  converted_to_old e p = p ∙ sym (ap (λ x. converted_word (as_way x) w) e)
 
-  pub converted-from-old : t ≡ false → v ≡ renewed-word w → v ≡ converted-word (as-way t) w
-  unfolding as-way converted-word
-  converted-from-old e p = p ∙ sym (ap (λ x. converted-word (as-way x) w) e)
+  pub converted_from_old : t ≡ false → v ≡ renewed_word w → v ≡ converted_word (as_way t) w
+  unfolding as_way converted_word
+  converted_from_old e p = p ∙ sym (ap (λ x. converted_word (as_way x) w) e)
 
-pub ruleset converted-laws = (converted-to-old, converted-from-old)
+pub ruleset converted_laws = (converted_to_old, converted_from_old)
 
 -- 57 by the two rings that it asks about
-pub form-by-rings : {p q : Bool} (w : ℕ) → p ≡ rings-are 4 (descriptor-in w) → q ≡ rings-are 0 (descriptor-in w) →
-    (eqb (w / 4503599627370496 % 2) 1 && (eqb (w / 9007199254740992 % 2048) 0 && (p || q))) ≡ has-old-form (descriptor-in w)
-unfolding has-old-form descriptor-in on field
-form-by-rings w e f = λ i. eqb (w / 4503599627370496 % 2) 1 && (eqb (w / 9007199254740992 % 2048) 0 && (e i || f i))
+pub form_by_rings : {p q : Bool} (w : ℕ) → p ≡ rings_are 4 (descriptor_in w) → q ≡ rings_are 0 (descriptor_in w) →
+    (eqb (w / 4503599627370496 % 2) 1 && (eqb (w / 9007199254740992 % 2048) 0 && (p || q))) ≡ has_old_form (descriptor_in w)
+unfolding has_old_form descriptor_in on field
+form_by_rings w e f = λ i. eqb (w / 4503599627370496 % 2) 1 && (eqb (w / 9007199254740992 % 2048) 0 && (e i || f i))

@@ -1,7 +1,7 @@
 // Descriptors of the old benches, a segment of them, made into today's and back where they stand, all or nothing.
 ghost use Rattle.std.specs.Prelude.{◌≡◌, map};
-ghost use Rattle.model.specs.Old.{converted-word, words-answer, convert-words};
-ghost use Rattle.old.specs.View.{as-way, as-answer};
+ghost use Rattle.model.specs.Old.{converted_word, words_answer, convert_words};
+ghost use Rattle.old.specs.View.{as_way, as_answer};
 
 mod word;
 
@@ -14,7 +14,7 @@ pub struct Answer {
 }
 
 fn words_answer(words: &[u64], back: bool) -> Answer
-    ensures { as-answer result ≡ words-answer (as-way back) 0 words.now }
+    ensures { as_answer result ≡ words_answer (as_way back) 0 words.now }
 {
     let mut i = 0;
     while i < words.len() {
@@ -34,7 +34,7 @@ fn words_answer(words: &[u64], back: bool) -> Answer
 }
 
 fn convert_each(words: &mut [u64], back: bool)
-    ensures { words.new ≡ map (converted-word (as-way back)) words.old }
+    ensures { words.new ≡ map (converted_word (as_way back)) words.old }
 {
     let count = words.len();
     let mut i = 0;
@@ -46,7 +46,7 @@ fn convert_each(words: &mut [u64], back: bool)
 
 // All words are judged first; where one fails nothing is written.
 pub fn convert_words(words: &mut [u64], back: bool) -> Answer
-    ensures { (as-answer result ≡ (convert-words (as-way back) words.old).answer) × (words.new ≡ (convert-words (as-way back) words.old).words) }
+    ensures { (as_answer result ≡ (convert_words (as_way back) words.old).answer) × (words.new ≡ (convert_words (as_way back) words.old).words) }
 {
     let x = words_answer(words, back);
     if x.number != 0 {

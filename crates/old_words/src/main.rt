@@ -2,8 +2,8 @@
 // on standard output.
 ghost use Rattle.std.specs.Prelude.{◌≡◌, ◌≤◌, ◌<◌, ◌+◌, ◌*◌, length, [], ◌∷◌};
 ghost use Rattle.model.specs.Listing.{ascii, decimal, line};
-ghost use Rattle.model.specs.Old.{words-at, words-bytes, converted-text, words-text};
-ghost use Rattle.old.specs.View.{as-way, as-answer};
+ghost use Rattle.model.specs.Old.{words_at, words_bytes, converted_text, words_text};
+ghost use Rattle.old.specs.View.{as_way, as_answer};
 ghost use Rattle.text.specs.Text.{Put};
 
 use fields::number::number_8;
@@ -14,7 +14,7 @@ use writing::number::put_number;
 // As many words as there is room for, each of 8 bytes.
 fn read_words(words: &mut [u64], bytes: &[u8])
     requires { 8 * length words.old ≤ length bytes.now }
-    ensures { words.new ≡ words-at (length words.old) 0 bytes.now }
+    ensures { words.new ≡ words_at (length words.old) 0 bytes.now }
 {
     let count = words.len();
     let mut i = 0;
@@ -26,7 +26,7 @@ fn read_words(words: &mut [u64], bytes: &[u8])
 
 fn put_words(text: &mut [u8], words: &[u64]) -> usize
     requires { 8 * length words.now ≤ length text.old }
-    ensures { Put (8 * length words.now) 0 (words-bytes words.now) text.old text.new result }
+    ensures { Put (8 * length words.now) 0 (words_bytes words.now) text.old text.new result }
 {
     let mut i = 0;
     while i < words.len() {
@@ -48,7 +48,7 @@ fn put_refusal(text: &mut [u8], number: u64, index: u64) -> usize
 // What a conversion answers and leaves.
 fn put_answer(text: &mut [u8], words: &[u64], answer: Answer) -> usize
     requires { (length words.now ≤ 4096) × (answer.number < 65536) × (answer.index < 65536) × (32768 ≤ length text.old) }
-    ensures { Put 32768 0 (converted-text (record { answer = as-answer answer; words = words.now })) text.old text.new result }
+    ensures { Put 32768 0 (converted_text (record { answer = as_answer answer; words = words.now })) text.old text.new result }
 {
     if answer.number != 0 {
         return put_refusal(text, answer.number, answer.index);
@@ -59,7 +59,7 @@ fn put_answer(text: &mut [u8], words: &[u64], answer: Answer) -> usize
 // The words that the bytes hold, converted, or what refuses them.
 fn put_converted(text: &mut [u8], words: &mut [u64], bytes: &[u8], back: bool) -> usize
     requires { (8 * length words.old ≡ length bytes.now) × (length words.old ≤ 4096) × (32768 ≤ length text.old) }
-    ensures { Put 32768 0 (words-text (as-way back) bytes.now) text.old text.new result }
+    ensures { Put 32768 0 (words_text (as_way back) bytes.now) text.old text.new result }
 {
     read_words(words, bytes);
     let x = old::convert_words(words, back);

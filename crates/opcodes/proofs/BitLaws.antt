@@ -4,18 +4,18 @@ use lib.Arith.{lt-one}
 use lib.Bits.{bit_and, bit_or, bit_xor, differ, and_step, or_step, xor_step}
 use lib.Count as Count
 use lib.Count.{ones_step, ones-le}
-use Rattle.model.specs.Opcodes.{bitwise, count-of-ones}
+use Rattle.model.specs.Opcodes.{bitwise, count_of_ones}
 
-half-below : (k a : ℕ) → a < 2 ^ suc k → a / 2 < 2 ^ k
-half-below k a h = let e : 2 ^ suc k ≡ 2 ^ k * 2 = pow-suc 2 k in omega arith
+half_below : (k a : ℕ) → a < 2 ^ suc k → a / 2 < 2 ^ k
+half_below k a h = let e : 2 ^ suc k ≡ 2 ^ k * 2 = pow-suc 2 k in omega arith
 
-ones-are-summed : (k n : ℕ) → n < 2 ^ k → Count.ones n ≡ count-of-ones k n
-unfolding count-of-ones Count.ones Count.ones_in
-ones-are-summed zero n h = rw (lt-one h) refl
-ones-are-summed (suc k) n h = ones_step n ∙ ap (λ (x : ℕ). n % 2 + x) (ones-are-summed k (n / 2) (half-below k n h))
+ones_are_summed : (k n : ℕ) → n < 2 ^ k → Count.ones n ≡ count_of_ones k n
+unfolding count_of_ones Count.ones Count.ones_in
+ones_are_summed zero n h = rw (lt-one h) refl
+ones_are_summed (suc k) n h = ones_step n ∙ ap (λ (x : ℕ). n % 2 + x) (ones_are_summed k (n / 2) (half_below k n h))
 
-pub count_law : (n : ℕ) → n < 2 ^ 64 → Count.ones n ≡ count-of-ones 64 n
-count_law n h = ones-are-summed 64 n h
+pub count_law : (n : ℕ) → n < 2 ^ 64 → Count.ones n ≡ count_of_ones 64 n
+count_law n h = ones_are_summed 64 n h
 
 pub count_fits : (n : ℕ) → n < 2 ^ 64 → Fits w64 (Count.ones n)
 count_fits n h = let k = ones-le 64 n h in omega arith
@@ -27,7 +27,7 @@ module _ (op f g : ℕ → ℕ → ℕ) (none : op 0 0 ≡ 0) (step : (a b : ℕ
   unfolding bitwise
   by_digits zero a b h i = rw (lt-one h, lt-one i) none
   by_digits (suc k) a b h i =
-      let e : op (a / 2) (b / 2) ≡ bitwise k f (a / 2) (b / 2) = by_digits k (a / 2) (b / 2) (half-below k a h) (half-below k b i) in
+      let e : op (a / 2) (b / 2) ≡ bitwise k f (a / 2) (b / 2) = by_digits k (a / 2) (b / 2) (half_below k a h) (half_below k b i) in
       let d : g (a % 2) (b % 2) ≡ f (a % 2) (b % 2) = same (a % 2) (b % 2) (mod-lt a (lit< tt)) (mod-lt b (lit< tt)) in
       step a b ∙ rw (e, d) (omega arith)
 
@@ -42,13 +42,13 @@ two_digits f g a b c d (suc zero) (suc (suc y)) h i = absurd (omega arith)
 two_digits f g a b c d (suc (suc x)) y h i = absurd (omega arith)
 
 module _ (a b : ℕ) (h : a < 2 ^ 64) (i : b < 2 ^ 64) where
-  pub and-law : bit_and a b ≡ bitwise 64 (λ x y. x * y) a b
-  and-law = by_digits bit_and (λ x y. x * y) min refl and_step (two_digits (λ x y. x * y) min refl refl refl refl) 64 a b h i
+  pub and_law : bit_and a b ≡ bitwise 64 (λ x y. x * y) a b
+  and_law = by_digits bit_and (λ x y. x * y) min refl and_step (two_digits (λ x y. x * y) min refl refl refl refl) 64 a b h i
 
-  pub or-law : bit_or a b ≡ bitwise 64 (λ x y. x + y - x * y) a b
-  or-law = by_digits bit_or (λ x y. x + y - x * y) max refl or_step (two_digits (λ x y. x + y - x * y) max refl refl refl refl) 64 a b h i
+  pub or_law : bit_or a b ≡ bitwise 64 (λ x y. x + y - x * y) a b
+  or_law = by_digits bit_or (λ x y. x + y - x * y) max refl or_step (two_digits (λ x y. x + y - x * y) max refl refl refl refl) 64 a b h i
 
-  pub xor-law : bit_xor a b ≡ bitwise 64 (λ x y. (x + y) % 2) a b
-  xor-law = by_digits bit_xor (λ x y. (x + y) % 2) differ refl xor_step (two_digits (λ x y. (x + y) % 2) differ refl refl refl refl) 64 a b h i
+  pub xor_law : bit_xor a b ≡ bitwise 64 (λ x y. (x + y) % 2) a b
+  xor_law = by_digits bit_xor (λ x y. (x + y) % 2) differ refl xor_step (two_digits (λ x y. (x + y) % 2) differ refl refl refl refl) 64 a b h i
 
-pub ruleset bits = (count_law, count_fits, and-law, or-law, xor-law)
+pub ruleset bits = (count_law, count_fits, and_law, or_law, xor_law)

@@ -2,11 +2,11 @@
 use Rattle.std.proofs.Common.{◌≡◌, ℕ, zero, suc, ◌+◌, ◌-◌, ◌*◌, ◌%◌, ◌<◌, ◌≤◌, Bool, true, false, not, ◌&&◌, eqb, leb, sym, refl, ◌∙◌, subst, arith, ne_eqb, eqb-true}
 use borrow.Author.Tests.{eqb-false}
 use Rattle.model.specs.Words.{field, on}
-use Rattle.model.specs.Opcodes.{Opcode, sum, difference, bitwise, count-of-ones, decoded}
+use Rattle.model.specs.Opcodes.{Opcode, sum, difference, bitwise, count_of_ones, decoded}
 use Rattle.model.proofs.BranchLaws.{and_left, and_right}
-use Rattle.model.proofs.Computing.{by-computation}
-use Rattle.model.proofs.TableLaws.{Outside, outside-not-decoded}
-use Rattle.opcodes.specs.Table.{result, taken, of_entry, reads_word, writes-word, moves-control, Told}
+use Rattle.model.proofs.Computing.{by_computation}
+use Rattle.model.proofs.TableLaws.{Outside, outside_not_decoded}
+use Rattle.opcodes.specs.Table.{result, taken, of_entry, reads_word, writes_word, moves_control, Told}
 
 -- THE RULE OF A COLUMN over all numbers below n
 same : (a b : Bool) → Bool
@@ -20,65 +20,65 @@ same_true true false e = sym e
 same_true false true e = e
 same_true false false e = refl
 
-right-below : (n column : ℕ) → (Opcode → Bool) → Bool
-right-below zero c f = true
-right-below (suc n) c f = same (on n c) (of_entry f (decoded n)) && right-below n c f
+right_below : (n column : ℕ) → (Opcode → Bool) → Bool
+right_below zero c f = true
+right_below (suc n) c f = same (on n c) (of_entry f (decoded n)) && right_below n c f
 
 -- of the last number, or of one before it
-on-last : (P : ℕ → Type 0) (n k : ℕ) → P n → (k < n → P k) → k < suc n → P k
-on-last P n k here before h = by-test (eqb k n) refl
+on_last : (P : ℕ → Type 0) (n k : ℕ) → P n → (k < n → P k) → k < suc n → P k
+on_last P n k here before h = by_test (eqb k n) refl
   where
-    by-test : (b : Bool) → eqb k n ≡ b → P k
-    by-test true e = subst P (sym (eqb-true k n e)) here
-    by-test false e = before (let ne = eqb-false k n e in omega arith)
+    by_test : (b : Bool) → eqb k n ≡ b → P k
+    by_test true e = subst P (sym (eqb-true k n e)) here
+    by_test false e = before (let ne = eqb-false k n e in omega arith)
 
-column-right : (n c : ℕ) (f : Opcode → Bool) → right-below n c f ≡ true → (k : ℕ) → k < n → on k c ≡ of_entry f (decoded k)
-unfolding right-below
-column-right zero c f e k h = absurd (omega arith)
-column-right (suc n) c f e k h =
-    on-last (λ z. on z c ≡ of_entry f (decoded z)) n k (same_true _ _ (and_left _ (right-below n c f) e))
-    (column-right n c f (and_right (same (on n c) (of_entry f (decoded n))) _ e) k) h
+column_right : (n c : ℕ) (f : Opcode → Bool) → right_below n c f ≡ true → (k : ℕ) → k < n → on k c ≡ of_entry f (decoded k)
+unfolding right_below
+column_right zero c f e k h = absurd (omega arith)
+column_right (suc n) c f e k h =
+    on_last (λ z. on z c ≡ of_entry f (decoded z)) n k (same_true _ _ (and_left _ (right_below n c f) e))
+    (column_right n c f (and_right (same (on n c) (of_entry f (decoded n))) _ e) k) h
 
 -- the five columns
 abbrev Right : (column : ℕ) → (Opcode → Bool) → Type 0
 Right c f = (k : ℕ) → k < 64 → on k c ≡ of_entry f (decoded k)
 
 operands : Right 5510560678910 (λ o. o.operand)
-unfolding right-below same of_entry on field by-computation
-operands = column-right 64 5510560678910 (λ o. o.operand) refl
+unfolding right_below same of_entry on field by_computation
+operands = column_right 64 5510560678910 (λ o. o.operand) refl
 
 privileges : Right 7696581394432 (λ o. o.privileged)
-unfolding right-below same of_entry on field by-computation
-privileges = column-right 64 7696581394432 (λ o. o.privileged) refl
+unfolding right_below same of_entry on field by_computation
+privileges = column_right 64 7696581394432 (λ o. o.privileged) refl
 
 readers : Right 5497558139898 (λ o. reads_word o.access)
-unfolding right-below same of_entry on field by-computation
-readers = column-right 64 5497558139898 (λ o. reads_word o.access) refl
+unfolding right_below same of_entry on field by_computation
+readers = column_right 64 5497558139898 (λ o. reads_word o.access) refl
 
-writers : Right 131588 (λ o. writes-word o.access)
-unfolding right-below same of_entry on field by-computation
-writers = column-right 64 131588 (λ o. writes-word o.access) refl
+writers : Right 131588 (λ o. writes_word o.access)
+unfolding right_below same of_entry on field by_computation
+writers = column_right 64 131588 (λ o. writes_word o.access) refl
 
-movers : Right 4411048853504 (λ o. moves-control o.access)
-unfolding right-below same of_entry on field by-computation
-movers = column-right 64 4411048853504 (λ o. moves-control o.access) refl
+movers : Right 4411048853504 (λ o. moves_control o.access)
+unfolding right_below same of_entry on field by_computation
+movers = column_right 64 4411048853504 (λ o. moves_control o.access) refl
 
-pub entry-law : (k : ℕ) (a b c d e : Bool) → k < 64 → a ≡ on k 5510560678910 → b ≡ on k 7696581394432 → c ≡ on k 5497558139898 → d ≡ on k 131588 → e ≡ on k 4411048853504 →
+pub entry_law : (k : ℕ) (a b c d e : Bool) → k < 64 → a ≡ on k 5510560678910 → b ≡ on k 7696581394432 → c ≡ on k 5497558139898 → d ≡ on k 131588 → e ≡ on k 4411048853504 →
     Told k (record { operand = a; privileged = b; reads = c; writes = d; moves = e })
-entry-law k a b c d e h i j l m n =
+entry_law k a b c d e h i j l m n =
     record {
       operand_same = i ∙ operands k h;
-      privilege-same = j ∙ privileges k h;
+      privilege_same = j ∙ privileges k h;
       reads_same = l ∙ readers k h;
-      writes-same = m ∙ writers k h;
-      moves-same = n ∙ movers k h;
+      writes_same = m ∙ writers k h;
+      moves_same = n ∙ movers k h;
     }
 
 apart : (k n : ℕ) → 64 ≤ k → n < 64 → k ≡ n → ⊥
 apart k n h l e = absurd (omega arith)
 
 outside : (k : ℕ) → 64 ≤ k → Outside k
-unfolding by-computation
+unfolding by_computation
 outside k h =
     record {
       lda = apart k 1 h (omega arith);
@@ -104,56 +104,56 @@ outside k h =
     }
 
 -- from 64 on there is none
-pub no-entry-law : (k : ℕ) → 64 ≤ k → Told k (record { operand = false; privileged = false; reads = false; writes = false; moves = false })
-unfolding of_entry by-computation
-no-entry-law k h =
-    let e = outside-not-decoded k (outside k h) in
-    record { operand_same = rw e; privilege-same = rw e; reads_same = rw e; writes-same = rw e; moves-same = rw e }
+pub no_entry_law : (k : ℕ) → 64 ≤ k → Told k (record { operand = false; privileged = false; reads = false; writes = false; moves = false })
+unfolding of_entry by_computation
+no_entry_law k h =
+    let e = outside_not_decoded k (outside k h) in
+    record { operand_same = rw e; privilege_same = rw e; reads_same = rw e; writes_same = rw e; moves_same = rw e }
 
-pub ruleset entries = (entry-law, no-entry-law)
+pub ruleset entries = (entry_law, no_entry_law)
 
 -- A READ'S RESULT, for each arm
 module _ (o a w r : ℕ) where
-  pub load-result : o ≡ 1 → w ≡ result o a w
+  pub load_result : o ≡ 1 → w ≡ result o a w
   unfolding result
-  load-result h = rw h
+  load_result h = rw h
 
-  pub add-result : o ≡ 3 → r ≡ sum a w → r ≡ result o a w
+  pub add_result : o ≡ 3 → r ≡ sum a w → r ≡ result o a w
   unfolding result
-  add-result h e = e ∙ rw h
+  add_result h e = e ∙ rw h
 
-  pub subtract-result : o ≡ 4 → r ≡ difference a w → r ≡ result o a w
+  pub subtract_result : o ≡ 4 → r ≡ difference a w → r ≡ result o a w
   unfolding result
-  subtract-result h e = e ∙ rw h
+  subtract_result h e = e ∙ rw h
 
-  pub and-result : o ≡ 5 → r ≡ bitwise 64 (λ x y. x * y) a w → r ≡ result o a w
+  pub and_result : o ≡ 5 → r ≡ bitwise 64 (λ x y. x * y) a w → r ≡ result o a w
   unfolding result
-  and-result h e = e ∙ rw h
+  and_result h e = e ∙ rw h
 
-  pub or-result : o ≡ 6 → r ≡ bitwise 64 (λ x y. x + y - x * y) a w → r ≡ result o a w
+  pub or_result : o ≡ 6 → r ≡ bitwise 64 (λ x y. x + y - x * y) a w → r ≡ result o a w
   unfolding result
-  or-result h e = e ∙ rw h
+  or_result h e = e ∙ rw h
 
-  pub exclusive-or-result : o ≡ 7 → r ≡ bitwise 64 (λ x y. (x + y) % 2) a w → r ≡ result o a w
+  pub exclusive_or_result : o ≡ 7 → r ≡ bitwise 64 (λ x y. (x + y) % 2) a w → r ≡ result o a w
   unfolding result
-  exclusive-or-result h e = e ∙ rw h
+  exclusive_or_result h e = e ∙ rw h
 
-  pub count-result : (o ≡ 1 → ⊥) → (o ≡ 3 → ⊥) → (o ≡ 4 → ⊥) → (o ≡ 5 → ⊥) → (o ≡ 6 → ⊥) → (o ≡ 7 → ⊥) → r ≡ count-of-ones 64 w → r ≡ result o a w
+  pub count_result : (o ≡ 1 → ⊥) → (o ≡ 3 → ⊥) → (o ≡ 4 → ⊥) → (o ≡ 5 → ⊥) → (o ≡ 6 → ⊥) → (o ≡ 7 → ⊥) → r ≡ count_of_ones 64 w → r ≡ result o a w
   unfolding result
-  count-result h i j k l m e = e ∙ simp (ne_eqb o 1 h, ne_eqb o 3 i, ne_eqb o 4 j, ne_eqb o 5 k, ne_eqb o 6 l, ne_eqb o 7 m)
+  count_result h i j k l m e = e ∙ simp (ne_eqb o 1 h, ne_eqb o 3 i, ne_eqb o 4 j, ne_eqb o 5 k, ne_eqb o 6 l, ne_eqb o 7 m)
 
 -- A TRANSFER IS TAKEN, for each arm
 module _ (o a : ℕ) where
-  pub tra-taken : o ≡ 24 → true ≡ taken o a
+  pub tra_taken : o ≡ 24 → true ≡ taken o a
   unfolding taken
-  tra-taken h = rw h
+  tra_taken h = rw h
 
-  pub tze-taken : o ≡ 25 → eqb a 0 ≡ taken o a
+  pub tze_taken : o ≡ 25 → eqb a 0 ≡ taken o a
   unfolding taken
-  tze-taken h = rw h
+  tze_taken h = rw h
 
-  pub tmi-taken : (o ≡ 24 → ⊥) → (o ≡ 25 → ⊥) → leb 9223372036854775808 a ≡ taken o a
+  pub tmi_taken : (o ≡ 24 → ⊥) → (o ≡ 25 → ⊥) → leb 9223372036854775808 a ≡ taken o a
   unfolding taken
-  tmi-taken h i = simp (ne_eqb o 24 h, ne_eqb o 25 i)
+  tmi_taken h i = simp (ne_eqb o 24 h, ne_eqb o 25 i)
 
-pub ruleset results = (load-result, add-result, subtract-result, and-result, or-result, exclusive-or-result, count-result, tra-taken, tze-taken, tmi-taken)
+pub ruleset results = (load_result, add_result, subtract_result, and_result, or_result, exclusive_or_result, count_result, tra_taken, tze_taken, tmi_taken)

@@ -1,6 +1,6 @@
 // A's operations, modulo 2^64 and bit by bit; what a read makes of A, and when a transfer is taken.
 ghost use Rattle.std.specs.Prelude.{◌≡◌, ◌+◌, ◌-◌, ◌*◌, ◌%◌};
-ghost use Rattle.model.specs.Opcodes.{sum, difference, bitwise, count-of-ones};
+ghost use Rattle.model.specs.Opcodes.{sum, difference, bitwise, count_of_ones};
 ghost use Rattle.opcodes.specs.Table.{result, taken};
 
 pub fn add(a: u64, w: u64) -> u64
@@ -35,7 +35,7 @@ pub fn exclusive_or(a: u64, w: u64) -> u64
 
 // CNT: the language's count of ones is the sum of the bits.
 pub fn count_ones(w: u64) -> u64
-    ensures* { λ r. ⌜ r ≡ count-of-ones 64 w ⌝ }
+    ensures* { λ r. ⌜ r ≡ count_of_ones 64 w ⌝ }
 {
     u64::count_ones(w) as u64
 }

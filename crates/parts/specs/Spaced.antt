@@ -3,5 +3,5 @@ use Rattle.std.specs.Prelude.{List, [], ◌∷◌, ◌++◌, ℕ}
 use Rattle.model.specs.Listing.{decimal}
 
 -- a pointer's numbers, each with a space after it
-unfoldable pub spaced-pointer : (ring segment word : ℕ) → List ℕ
-spaced-pointer r s w = (decimal r ++ (32 ∷ [])) ++ ((decimal s ++ (32 ∷ [])) ++ (decimal w ++ (32 ∷ [])))
+unfoldable pub spaced_pointer : (ring segment word : ℕ) → List ℕ
+spaced_pointer r s w = (decimal r ++ (32 ∷ [])) ++ ((decimal s ++ (32 ∷ [])) ++ (decimal w ++ (32 ∷ [])))

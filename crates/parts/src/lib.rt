@@ -2,7 +2,7 @@
 ghost use Rattle.std.specs.Prelude.{◌≡◌, [], ◌∷◌, ◌++◌, ◌≤◌, ◌<◌, ◌+◌, length};
 ghost use Rattle.model.specs.Listing.{decimal};
 ghost use Rattle.text.specs.Text.{placed, Put};
-ghost use Rattle.parts.specs.Spaced.{spaced-pointer};
+ghost use Rattle.parts.specs.Spaced.{spaced_pointer};
 
 // A number, and the byte that ends it.
 pub fn put_number(text: &mut [u8], at: usize, v: u32, after: u8) -> usize
@@ -43,7 +43,7 @@ pub fn put_short(text: &mut [u8], at: usize, v: u64, after: u8) -> usize
 // A pointer's numbers, each with a space after it.
 pub fn put_pointer(text: &mut [u8], at: usize, ring: u64, segment: u64, word: u64) -> usize
     requires { (at + 19 ≤ length text.old) × (ring ≤ 7) × (segment ≤ 4095) × (word < 65536) }
-    ensures { Put 14 at (spaced-pointer ring segment word) text.old text.new result }
+    ensures { Put 14 at (spaced_pointer ring segment word) text.old text.new result }
 {
     let at_segment = put_digit(text, at, ring, 32);
     let at_word = put_short(text, at_segment, segment, 32);

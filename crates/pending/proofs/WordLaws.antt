@@ -10,7 +10,7 @@ pub word_read : (b : Bool) (w u x : ℕ) → (b ≡ true → ⊥) → x ≡ u �
 word_read true w u x h e = absurd (h refl)
 word_read false w u x h e = e
 
-pub word-not-held : (b : Bool) (w u x : ℕ) → b ≡ false → x ≡ u → x ≡ cond b w u
-word-not-held b w u x h e = e ∙ ap (λ k. cond k w u) (sym h)
+pub word_not_held : (b : Bool) (w u x : ℕ) → b ≡ false → x ≡ u → x ≡ cond b w u
+word_not_held b w u x h e = e ∙ ap (λ k. cond k w u) (sym h)
 
-pub ruleset found-words = (word_held, word_read, word-not-held)
+pub ruleset found_words = (word_held, word_read, word_not_held)

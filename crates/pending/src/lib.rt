@@ -2,14 +2,14 @@
 // opcode does with it is the plain processor's.
 ghost use Rattle.std.specs.Prelude.{◌≡◌, ℕ, ◌+◌, ◌*◌, ◌%◌, ◌<◌, ◌≤◌, List, cond, length, get_or};
 ghost use Rattle.state.specs.declared.End.TheVariants.{Completed};
-ghost use Rattle.pending.specs.Left.{Can-store, Can-look, ended-with, asking-at, Fails, Goes-by-use, Begins, Goes_on, is-described, Written, Stores, load-with, load-dbr-with, Answers-read, update-with, Answers-look, move-with, return-with, call-with};
+ghost use Rattle.pending.specs.Left.{CanStore, CanLook, ended_with, asking_at, Fails, GoesByUse, Begins, Goes_on, is_described, Written, Stores, load_with, load_dbr_with, AnswersRead, update_with, AnswersLook, move_with, return_with, call_with};
 ghost use Rattle.model.specs.Words as Words;
-ghost use Rattle.state.specs.View.{as-pointers};
-ghost use Rattle.model.specs.Questions.{read-questions, transfer-questions, return-questions, call-questions};
-ghost use Rattle.model.specs.Words.{descriptor-in};
+ghost use Rattle.state.specs.View.{as_pointers};
+ghost use Rattle.model.specs.Questions.{read_questions, transfer_questions, return_questions, call_questions};
+ghost use Rattle.model.specs.Words.{descriptor_in};
 ghost use Rattle.words.specs.View.{as_pointer};
-ghost use Rattle.questions.specs.Use.{questions-of};
-ghost use Rattle.segments.specs.Translation.{as-dbr, word-answer, passed-unless, asked_of};
+ghost use Rattle.questions.specs.Use.{questions_of};
+ghost use Rattle.segments.specs.Translation.{as_dbr, word_answer, passed_unless, asked_of};
 
 use lookup::Search;
 use opcodes::arithmetic::add;
@@ -65,7 +65,7 @@ pub struct Far {
 }
 
 pub fn ended(core: Core, far: Far, reply: Reply) -> Pending
-    ensures { result ≡ ended-with core far reply }
+    ensures { result ≡ ended_with core far reply }
 {
     Pending {
         core,
@@ -84,7 +84,7 @@ pub fn ended(core: Core, far: Far, reply: Reply) -> Pending
 }
 
 fn asking(core: Core, far: Far, place: Place, segment: u64) -> Pending
-    ensures { result ≡ asking-at core far place (segment % 65536) }
+    ensures { result ≡ asking_at core far place (segment % 65536) }
 {
     Pending {
         core,
@@ -118,7 +118,7 @@ pub fn failing(delivery: Delivery, core: Core, far: Far, n: u8, t: Pointer) -> P
 
 // A use of a segment: 11, then its descriptor.
 pub fn using(delivery: Delivery, core: Core, far: Far, place: Place, t: Pointer) -> Pending
-    ensures { Goes-by-use delivery core far place t result }
+    ensures { GoesByUse delivery core far place t result }
 {
     let segment = t.segment.0;
     if core.dbr.length <= segment {
@@ -198,14 +198,14 @@ pub fn none() -> Descriptor
 // Does one of so many words from an address on describe a segment?
 pub fn is_described(dbr: Dbr, address: u64, words: u64) -> bool
     requires { (dbr.address ≤ 16777215) × (dbr.length ≤ 4096) × (address ≤ 33554431) × (words ≤ 13) }
-    ensures { result ≡ is-described (as-dbr dbr) address words }
+    ensures { result ≡ is_described (as_dbr dbr) address words }
 {
     (address < dbr.address + dbr.length) & (dbr.address < address + words)
 }
 
 // 12 to 15 and the questions of the use, of a descriptor that was found.
 pub fn judged(by: Use, d: Descriptor, words: usize, ipr: Pointer, t: Pointer) -> Translated
-    ensures { result ≡ asked_of (questions-of by (as_pointer ipr) (as_pointer t)) (passed-unless (word-answer words d.0 t.word.0) d) }
+    ensures { result ≡ asked_of (questions_of by (as_pointer ipr) (as_pointer t)) (passed_unless (word_answer words d.0 t.word.0) d) }
 {
     ask(by, judge(d, words, t), ipr, t)
 }
@@ -222,7 +222,7 @@ fn written(core: Core, memory: &mut [u64], d: Descriptor, t: Pointer, value: u64
 // Is the word there a segment's descriptor?
 fn is_descriptor(dbr: Dbr, d: Descriptor, t: Pointer) -> bool
     requires { (dbr.address ≤ 16777215) × (dbr.length ≤ 4096) × (t.word.0 ≤ 65535) }
-    ensures { result ≡ is-described (as-dbr dbr) ((descriptor-in d.0).address + t.word.0) 1 }
+    ensures { result ≡ is_described (as_dbr dbr) ((descriptor_in d.0).address + t.word.0) 1 }
 {
     is_described(dbr, words::descriptor::address_of(d) + t.word.0, 1)
 }
@@ -238,7 +238,7 @@ pub fn storing(
     t: Pointer,
     value: u64,
 ) -> Pending
-    requires { Can-store budget core far t }
+    requires { CanStore budget core far t }
     ensures { Stores delivery budget core far d.0 t value memory.old result memory.new }
 {
     let dbr = core.dbr;
@@ -249,7 +249,7 @@ pub fn storing(
 
 // The descriptor's word: the record's, or else memory's, which is read only then.
 pub fn word_of(s: Search, core: Core, memory: &[u64]) -> u64
-    requires { Can-look core s.segment (length memory.now) }
+    requires { CanLook core s.segment (length memory.now) }
     ensures { result ≡ cond s.hit s.word (get_or memory.now (core.dbr.address + s.segment) 0) }
 {
     if s.hit {
@@ -271,7 +271,7 @@ pub fn loading(
     t: Pointer,
 ) -> Pending
     requires { (far.count < budget) × (far.total ≤ 64 * far.count) × (far.read ≤ 64) }
-    ensures { Answers-read delivery budget core far d.0 t (read-questions (as_pointer t)) (load-with opcode) memory.now result }
+    ensures { AnswersRead delivery budget core far d.0 t (read_questions (as_pointer t)) (load_with opcode) memory.now result }
 {
     let z = word_by(judged(Use::Read, d, memory.len(), t, t), memory, t);
     let y = operations::access::loaded(core, d, opcode, t, z);
@@ -289,7 +289,7 @@ pub fn loading_dbr(
     t: Pointer,
 ) -> Pending
     requires { (far.count < budget) × (far.total ≤ 64 * far.count) × (far.read ≤ 64) }
-    ensures { Answers-read delivery budget core far d.0 t (read-questions (as_pointer t)) (load-dbr-with (length memory.now) t) memory.now result }
+    ensures { AnswersRead delivery budget core far d.0 t (read_questions (as_pointer t)) (load_dbr_with (length memory.now) t) memory.now result }
 {
     let z = word_by(judged(Use::Read, d, memory.len(), t, t), memory, t);
     let y = operations::access::dbr_loaded(core, d, memory.len(), t, z);
@@ -307,7 +307,7 @@ pub fn moving(
     t: Pointer,
 ) -> Pending
     requires { (far.count < budget) × (far.total ≤ 64 * far.count) × (far.read ≤ 64) }
-    ensures { (ps : List Words.Pointer) → Answers-look delivery budget core far d.0 t (transfer-questions (as_pointer core.ipr) (as_pointer t)) (move-with t) words result ps ps }
+    ensures { (ps : List Words.Pointer) → AnswersLook delivery budget core far d.0 t (transfer_questions (as_pointer core.ipr) (as_pointer t)) (move_with t) words result ps ps }
 {
     let ipr = core.ipr;
     let y = control::moved_to(core, d, t, judged(Use::Transfer, d, words, ipr, t));
@@ -326,7 +326,7 @@ pub fn returning(
     t: Pointer,
 ) -> Pending
     requires { (far.count < budget) × (far.total ≤ 64 * far.count) × (far.read ≤ 64) × (t.ring ≤ 7) }
-    ensures { Answers-look delivery budget core far d.0 t (return-questions (as_pointer t)) (return-with t) words result (as-pointers prs.old) (as-pointers prs.new) }
+    ensures { AnswersLook delivery budget core far d.0 t (return_questions (as_pointer t)) (return_with t) words result (as_pointers prs.old) (as_pointers prs.new) }
 {
     let y = control::returned(core, d, prs, t, judged(Use::Return, d, words, t, t));
     after(delivery, y, far, budget, false)
@@ -344,7 +344,7 @@ pub fn calling(
     t: Pointer,
 ) -> Pending
     requires { (far.count < budget) × (far.total ≤ 64 * far.count) × (far.read ≤ 64) × (t.ring ≤ 7) }
-    ensures { Answers-look delivery budget core far d.0 t (call-questions (as_pointer core.ipr) (as_pointer t)) (call-with t) words result (as-pointers prs.old) (as-pointers prs.new) }
+    ensures { AnswersLook delivery budget core far d.0 t (call_questions (as_pointer core.ipr) (as_pointer t)) (call_with t) words result (as_pointers prs.old) (as_pointers prs.new) }
 {
     let ipr = core.ipr;
     let x = control::ring_by(t, judged(Use::Call, d, words, ipr, t));
@@ -361,7 +361,7 @@ pub fn updating(
     d: Descriptor,
     t: Pointer,
 ) -> Pending
-    ensures { (b : ℕ) → Answers-read delivery b core far d.0 t (read-questions (as_pointer t)) (update-with t) memory.now result }
+    ensures { (b : ℕ) → AnswersRead delivery b core far d.0 t (read_questions (as_pointer t)) (update_with t) memory.now result }
 {
     let z = word_by(judged(Use::Read, d, memory.len(), t, t), memory, t);
     match z {

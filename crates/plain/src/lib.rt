@@ -1,7 +1,7 @@
 // 1 to 4, then plain steps. All that they do is merged into `run_numbers`, the loop of steps with it; what is seldom done, a delivered
 // fault and RCU, stays outside it, so that it costs the loop nothing.
 ghost use Rattle.std.specs.Prelude.{cond, true, false, [], ◌≡◌, ◌+◌, ◌^◌, ◌<◌};
-ghost use Rattle.plain.specs.Plain.{core-of, Plain-as};
+ghost use Rattle.plain.specs.Plain.{core_of, PlainAs};
 
 use answers::{Answered, answer_of};
 use segments::translate::Dbr;
@@ -35,7 +35,7 @@ fn run_numbers(
     trace: &mut [u64],
     single: bool,
 ) -> Answered
-    ensures { Plain-as single budget (core-of a address length ring segment word) prs.old memory.old trace.old result prs.new memory.new trace.new }
+    ensures { PlainAs single budget (core_of a address length ring segment word) prs.old memory.old trace.old result prs.new memory.new trace.new }
 {
     let core = Core {
         a,
@@ -64,7 +64,7 @@ pub fn run(
     budget: u32,
     trace: &mut [u64],
 ) -> Answered
-    ensures { Plain-as false budget core prs.old memory.old trace.old result prs.new memory.new trace.new }
+    ensures { PlainAs false budget core prs.old memory.old trace.old result prs.new memory.new trace.new }
 {
     run_numbers(
         core.a,
@@ -83,7 +83,7 @@ pub fn run(
 
 // A single step, with its pointer words however it ends.
 pub fn step(core: Core, prs: &mut [u16; 24], memory: &mut [u64]) -> Answered
-    ensures { Plain-as true 1 core prs.old memory.old [] result prs.new memory.new [] }
+    ensures { PlainAs true 1 core prs.old memory.old [] result prs.new memory.new [] }
 {
     let mut none: [u64; 0] = [];
     run_numbers(

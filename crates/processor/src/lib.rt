@@ -1,9 +1,9 @@
 // The next instruction, formed by every question or by the quick way, up to the point where it is performed.
 ghost use Rattle.std.specs.Prelude.{◌≡◌, true, length};
-ghost use Rattle.model.specs.Questions.{all, pointer-in-range};
-ghost use Rattle.segments.specs.Translation.{Code-right};
-ghost use Rattle.state.specs.View.{as-pointers, as-machine, Ready};
-ghost use Rattle.processor.specs.Step.{operand-formed, formed, quickly-formed};
+ghost use Rattle.model.specs.Questions.{all, pointer_in_range};
+ghost use Rattle.segments.specs.Translation.{CodeRight};
+ghost use Rattle.state.specs.View.{as_pointers, as_machine, Ready};
+ghost use Rattle.processor.specs.Step.{OperandFormed, formed, QuicklyFormed};
 
 use addressing::Address;
 use questions::Use;
@@ -28,8 +28,8 @@ pub enum Prepared {
 
 // TPR of a fetched instruction. 32 and 33 are `perform`'s to ask, but 33 comes before the pointer words.
 fn operand(core: Core, prs: &[u16; 24], memory: &[u64], w: u64) -> Address
-    requires { Ready core memory.now × (all pointer-in-range (as-pointers prs.now) ≡ true) }
-    ensures { operand-formed (as-machine core prs.now memory.now) w result }
+    requires { Ready core memory.now × (all pointer_in_range (as_pointers prs.now) ≡ true) }
+    ensures { OperandFormed (as_machine core prs.now memory.now) w result }
 {
     let ipr = core.ipr;
     let first = addressing::first_address(core, prs, w);
@@ -46,8 +46,8 @@ fn operand(core: Core, prs: &[u16; 24], memory: &[u64], w: u64) -> Address
 
 // The general way: every question up to the operand's own, in order.
 pub fn form(core: Core, prs: &[u16; 24], memory: &[u64]) -> Formed
-    requires { Ready core memory.now × (all pointer-in-range (as-pointers prs.now) ≡ true) }
-    ensures { formed (as-machine core prs.now memory.now) result }
+    requires { Ready core memory.now × (all pointer_in_range (as_pointers prs.now) ≡ true) }
+    ensures { formed (as_machine core prs.now memory.now) result }
 {
     let dbr = core.dbr;
     let ipr = core.ipr;
@@ -63,8 +63,8 @@ pub fn form(core: Core, prs: &[u16; 24], memory: &[u64]) -> Formed
 // The quick way: the segment's descriptor is the word that has passed before, and I is off. 11 and 15 are asked; the word
 // itself answers 12 to 14 and 21.
 pub fn quick(code: Descriptor, core: Core, prs: &[u16; 24], memory: &[u64]) -> Prepared
-    requires { Ready core memory.now × (all pointer-in-range (as-pointers prs.now) ≡ true) × Code-right code.0 core.ipr.ring (length memory.now) }
-    ensures { quickly-formed (as-machine core prs.now memory.now) result }
+    requires { Ready core memory.now × (all pointer_in_range (as_pointers prs.now) ≡ true) × CodeRight code.0 core.ipr.ring (length memory.now) }
+    ensures { QuicklyFormed (as_machine core prs.now memory.now) result }
 {
     let ipr = core.ipr;
     let segment = ipr.segment.0;

@@ -1,15 +1,15 @@
 -- The questions of each use of a segment. Assumes nothing: these are definitions.
 use Rattle.model.specs.Words as Words
-use Rattle.model.specs.Questions.{Question, fetch-questions, read-questions, write-questions, transfer-questions, return-questions, call-questions, part-questions}
+use Rattle.model.specs.Questions.{Question, fetch_questions, read_questions, write_questions, transfer_questions, return_questions, call_questions, part_questions}
 use Rattle.questions.specs.declared.Use.{Use}
 use Rattle.questions.specs.declared.Use.TheVariants as Use
 
 -- what a use by the instruction at ipr asks, once 11 to 15 have passed
-abbrev pub questions-of : Use → (ipr t : Words.Pointer) → Question
-questions-of Use.Fetch ipr t = fetch-questions t
-questions-of Use.Read ipr t = read-questions t
-questions-of Use.Write ipr t = write-questions t
-questions-of Use.Transfer ipr t = transfer-questions ipr t
-questions-of Use.Return ipr t = return-questions t
-questions-of Use.Call ipr t = call-questions ipr t
-questions-of Use.Frame ipr t = part-questions 13 t
+abbrev pub questions_of : Use → (ipr t : Words.Pointer) → Question
+questions_of Use.Fetch ipr t = fetch_questions t
+questions_of Use.Read ipr t = read_questions t
+questions_of Use.Write ipr t = write_questions t
+questions_of Use.Transfer ipr t = transfer_questions ipr t
+questions_of Use.Return ipr t = return_questions t
+questions_of Use.Call ipr t = call_questions ipr t
+questions_of Use.Frame ipr t = part_questions 13 t

@@ -1,9 +1,9 @@
 // What a descriptor lets a ring do, and the questions by use, after 11 to 15: 21 to 30, and 15 of the rest of a frame, each use's in order. 0 is a yes to all.
 ghost use Rattle.std.specs.Prelude.{◌≡◌, ◌≤◌, min};
-ghost use Rattle.model.specs.Words.{descriptor-in};
+ghost use Rattle.model.specs.Words.{descriptor_in};
 ghost use Rattle.model.specs.Questions as Questions;
 ghost use Rattle.words.specs.View.{as_pointer};
-ghost use Rattle.questions.specs.Use.{questions-of};
+ghost use Rattle.questions.specs.Use.{questions_of};
 
 use words::descriptor::Descriptor;
 use words::pointer::Pointer;
@@ -22,7 +22,7 @@ pub enum Use {
 
 // 21 and 25: E on, and the ring in the execute bracket?
 fn is_executable(d: Descriptor, p: Pointer) -> bool
-    ensures { result ≡ Questions.may-execute (as_pointer p) (descriptor-in d.0) }
+    ensures { result ≡ Questions.may_execute (as_pointer p) (descriptor_in d.0) }
 {
     words::descriptor::is_execute_on(d)
         & ((words::descriptor::r1_of(d) <= p.ring) & (p.ring <= words::descriptor::r2_of(d)))
@@ -30,14 +30,14 @@ fn is_executable(d: Descriptor, p: Pointer) -> bool
 
 // 22: R on, and the ring in the read bracket?
 pub fn is_readable(d: Descriptor, p: Pointer) -> bool
-    ensures { result ≡ Questions.may_read (as_pointer p) (descriptor-in d.0) }
+    ensures { result ≡ Questions.may_read (as_pointer p) (descriptor_in d.0) }
 {
     words::descriptor::is_read_on(d) & (p.ring <= words::descriptor::r2_of(d))
 }
 
 // 23: W on, and the ring in the write bracket?
 fn is_writable(d: Descriptor, p: Pointer) -> bool
-    ensures { result ≡ Questions.may_write (as_pointer p) (descriptor-in d.0) }
+    ensures { result ≡ Questions.may_write (as_pointer p) (descriptor_in d.0) }
 {
     words::descriptor::is_write_on(d) & (p.ring <= words::descriptor::r1_of(d))
 }
@@ -50,7 +50,7 @@ fn answer(may: bool, number: u8) -> u8
 
 // 24, then 25.
 fn transfer_answer(ipr: Pointer, t: Pointer, d: Descriptor) -> u8
-    ensures { result ≡ Questions.transfer-questions (as_pointer ipr) (as_pointer t) (descriptor-in d.0) }
+    ensures { result ≡ Questions.transfer_questions (as_pointer ipr) (as_pointer t) (descriptor_in d.0) }
 {
     if t.ring != ipr.ring {
         return 24;
@@ -66,14 +66,14 @@ fn smaller(a: u64, b: u64) -> u64
 
 // CALL's new ring.
 pub fn new_ring(t: Pointer, d: Descriptor) -> u64
-    ensures { (result ≡ Questions.new-ring (as_pointer t) (descriptor-in d.0)) × (result ≤ 7) }
+    ensures { (result ≡ Questions.new_ring (as_pointer t) (descriptor_in d.0)) × (result ≤ 7) }
 {
     smaller(t.ring, words::descriptor::r2_of(d))
 }
 
 // 26 to 30.
 fn call_answer(ipr: Pointer, t: Pointer, d: Descriptor) -> u8
-    ensures { result ≡ Questions.call-questions (as_pointer ipr) (as_pointer t) (descriptor-in d.0) }
+    ensures { result ≡ Questions.call_questions (as_pointer ipr) (as_pointer t) (descriptor_in d.0) }
 {
     if !words::descriptor::is_execute_on(d) {
         return 26;
@@ -95,7 +95,7 @@ fn call_answer(ipr: Pointer, t: Pointer, d: Descriptor) -> u8
 
 // 15 of each of a frame's thirteen words, the first of which is at `t`, then 22.
 fn frame_answer(t: Pointer, d: Descriptor) -> u8
-    ensures { result ≡ Questions.part-questions 13 (as_pointer t) (descriptor-in d.0) }
+    ensures { result ≡ Questions.part_questions 13 (as_pointer t) (descriptor_in d.0) }
 {
     let length = words::descriptor::length_of(d);
     if length <= t.word.0 {
@@ -112,7 +112,7 @@ fn frame_answer(t: Pointer, d: Descriptor) -> u8
 
 // Those of a use by the instruction at `ipr`, of the pointer `t`.
 pub fn use_answer(by: Use, ipr: Pointer, t: Pointer, d: Descriptor) -> u8
-    ensures { result ≡ questions-of by (as_pointer ipr) (as_pointer t) (descriptor-in d.0) }
+    ensures { result ≡ questions_of by (as_pointer ipr) (as_pointer t) (descriptor_in d.0) }
 {
     match by {
         Use::Fetch => answer(is_executable(d, t), 21),

@@ -1,6 +1,6 @@
 // An image read from standard input.
 ghost use Rattle.std.specs.Prelude.{◌≡◌, ◌≤◌, length, replicate};
-ghost use Rattle.reading.specs.Read.{Zeros-lent, Ready-within};
+ghost use Rattle.reading.specs.Read.{ZerosLent, ReadyWithin};
 
 use host::record::Registers;
 use image::load::{LoadOutcome, Loaded};
@@ -23,8 +23,8 @@ pub struct Read {
 
 // Reads and loads until an image is whole or refused; `More` means that the input can't be read.
 pub fn read_image(store: &mut [u64]) -> Read
-    requires { Zeros-lent store.old }
-    ensures { Ready-within result.loaded store.new }
+    requires { ZerosLent store.old }
+    ensures { ReadyWithin result.loaded store.new }
 {
     let mut buffer = io::large_buffer();
     let mut x = Loaded {

@@ -8,120 +8,120 @@ use native.Mathlib.Omega.{arith}
 use lib.Dec.{leb}
 use lib.ListN.{length, take, drop, replicate, length-append, length-drop, drop_of_length-le}
 use lib.Seq.{length-take-le}
-use Rattle.model.proofs.BranchLaws.{cond-holds}
+use Rattle.model.proofs.BranchLaws.{cond_holds}
 use borrow.Author.Tests.{leb-true, not-true, not-false, le-leb, lt-leb, ne_eqb}
 use Rattle.model.specs.Questions.{ask}
-use Rattle.model.specs.Run.{unless-refused}
+use Rattle.model.specs.Run.{unless_refused}
 use Rattle.model.specs.Image as Image
-use Rattle.model.specs.Image.{ME, ST, RN, mark_of, start-size, record-size, number_at, registers-at, delivery-at, has, in_order, memory-allowed, address-allowed, address-new, record-questions, with-record, record-on, whole-record-on}
-use Rattle.fields.proofs.MarkLaws.{start-has-registers}
+use Rattle.model.specs.Image.{ME, ST, RN, mark_of, start_size, record_size, number_at, registers_at, delivery_at, has, in_order, memory_allowed, address_allowed, address_new, record_questions, with_record, record_on, whole_record_on}
+use Rattle.fields.proofs.MarkLaws.{start_has_registers}
 use Rattle.host.specs.declared.record.Registers.{Registers}
-use Rattle.host.specs.Record.{registers-of, delivery-of}
+use Rattle.host.specs.Record.{registers_of, delivery_of}
 use Rattle.loading.specs.declared.Loading.{Loading}
 use Rattle.loading.specs.declared.Outcome.TheVariants.{Refused, Waits, Next, Ready}
-use Rattle.loading.specs.View.{rules-of, keeps-words, memory-in, as-loading, Memory-within}
-use Rattle.loading.specs.Record.{outcome-image, Goes}
-use Rattle.loading.proofs.RecordLaws.{number-in-record, delivery-in, loading-front, out_of_order}
+use Rattle.loading.specs.View.{rules_of, keeps_words, memory_in, as_loading, MemoryWithin}
+use Rattle.loading.specs.Record.{outcome_image, Goes}
+use Rattle.loading.proofs.RecordLaws.{number_in_record, delivery_in, loading_front, out_of_order}
 
-take-replicate : (n k : ℕ) (v : ℕ) → n ≤ k → take n (replicate k v) ≡ replicate n v
-take-replicate zero k v h = refl
-take-replicate (suc n) zero v h = absurd (omega arith)
-take-replicate (suc n) (suc k) v h = ap (λ xs. v ∷ xs) (take-replicate n k v (omega arith))
+take_replicate : (n k : ℕ) (v : ℕ) → n ≤ k → take n (replicate k v) ≡ replicate n v
+take_replicate zero k v h = refl
+take_replicate (suc n) zero v h = absurd (omega arith)
+take_replicate (suc n) (suc k) v h = ap (λ xs. v ∷ xs) (take_replicate n k v (omega arith))
 
-no-words-yet : (n : ℕ) (m : List ℕ) → n ≤ 8192 → m ≡ replicate (length m) 0 → replicate n 0 ≡ memory-in n m
-unfolding memory-in keeps-words
-no-words-yet n m h z =
-    cond-holds (λ (ws : List ℕ). replicate n 0 ≡ ws) (leb 8320 (length m))
-    (λ e. sym (ap (take n) z ∙ take-replicate n (length m) 0 (let y = leb-true 8320 (length m) e in omega arith))) (λ _. refl)
+no_words_yet : (n : ℕ) (m : List ℕ) → n ≤ 8192 → m ≡ replicate (length m) 0 → replicate n 0 ≡ memory_in n m
+unfolding memory_in keeps_words
+no_words_yet n m h z =
+    cond_holds (λ (ws : List ℕ). replicate n 0 ≡ ws) (leb 8320 (length m))
+    (λ e. sym (ap (take n) z ∙ take_replicate n (length m) 0 (let y = leb-true 8320 (length m) e in omega arith))) (λ _. refl)
 
-pub given-within : (n : ℕ) (m : List ℕ) → n ≤ 8192 → Memory-within true n m
-unfolding Memory-within
-given-within n m h = h
+pub given_within : (n : ℕ) (m : List ℕ) → n ≤ 8192 → MemoryWithin true n m
+unfolding MemoryWithin
+given_within n m h = h
 
 -- ME
-module _ (x : Loading) (m bs : List ℕ) (e : Bool) (is-marked : mark_of bs ≡ some ME) (whole : 6 ≤ length bs) where
-  pub second-me : x.has_memory ≡ true → Goes (as-loading x m) bs e (Refused 42) (as-loading x m)
-  unfolding as-loading record-size in_order has
-  second-me h = out_of_order ME x m bs e is-marked whole (λ rest. rw h)
+module _ (x : Loading) (m bs : List ℕ) (e : Bool) (is_marked : mark_of bs ≡ some ME) (whole : 6 ≤ length bs) where
+  pub second_me : x.has_memory ≡ true → Goes (as_loading x m) bs e (Refused 42) (as_loading x m)
+  unfolding as_loading record_size in_order has
+  second_me h = out_of_order ME x m bs e is_marked whole (λ rest. rw h)
 
   module _ (h : x.has_memory ≡ false) (n : ℕ) (q : n ≡ number_at 2 4 bs) where
     size : number_at 2 4 (take 6 bs) ≡ n
-    size = number-in-record 6 2 4 bs whole (omega arith) ∙ sym q
+    size = number_in_record 6 2 4 bs whole (omega arith) ∙ sym q
 
-    pub me-too-large : 8192 < n → Goes (as-loading x m) bs e (Refused 43) (as-loading x m)
-    unfolding Goes as-loading outcome-image record-size whole-record-on record-questions in_order memory-allowed ask has unless-refused
-    me-too-large g rest _ = loading-front ME x m bs is-marked whole rest ∙ rw (h, size, lt-leb _ _ g)
+    pub me_too_large : 8192 < n → Goes (as_loading x m) bs e (Refused 43) (as_loading x m)
+    unfolding Goes as_loading outcome_image record_size whole_record_on record_questions in_order memory_allowed ask has unless_refused
+    me_too_large g rest _ = loading_front ME x m bs is_marked whole rest ∙ rw (h, size, lt-leb _ _ g)
 
-    pub me-loaded : n ≤ 8192 → Memory-within x.has_memory x.words m →
-        Goes (as-loading x m) bs e (Next 6) (as-loading (record { is_stored = x.is_stored; has_memory = true; words = n; has_registers = x.has_registers; registers = x.registers }) m)
-    unfolding Goes as-loading outcome-image record-size whole-record-on record-questions in_order memory-allowed address-allowed address-new record-on with-record ask has unless-refused Memory-within
-    me-loaded g z rest _ =
-        let zeros : replicate {A = ℕ} n 0 ≡ memory-in n m = no-words-yet n m g (rw h at z) in
-        loading-front ME x m bs is-marked whole rest ∙ rw (h, size, le-leb _ _ g, zeros)
+    pub me_loaded : n ≤ 8192 → MemoryWithin x.has_memory x.words m →
+        Goes (as_loading x m) bs e (Next 6) (as_loading (record { is_stored = x.is_stored; has_memory = true; words = n; has_registers = x.has_registers; registers = x.registers }) m)
+    unfolding Goes as_loading outcome_image record_size whole_record_on record_questions in_order memory_allowed address_allowed address_new record_on with_record ask has unless_refused MemoryWithin
+    me_loaded g z rest _ =
+        let zeros : replicate {A = ℕ} n 0 ≡ memory_in n m = no_words_yet n m g (rw h at z) in
+        loading_front ME x m bs is_marked whole rest ∙ rw (h, size, le-leb _ _ g, zeros)
 
 -- ST, of so many bytes as the rules give it
-module _ (v : Bool) (n : ℕ) (bs : List ℕ) (sized : n ≡ start-size (rules-of v)) (whole : start-size (rules-of v) ≤ length bs) where
-  pub start-length : n ≡ length (take n bs)
-  start-length = sym (length-take-le n bs (omega arith))
+module _ (v : Bool) (n : ℕ) (bs : List ℕ) (sized : n ≡ start_size (rules_of v)) (whole : start_size (rules_of v) ≤ length bs) where
+  pub start_length : n ≡ length (take n bs)
+  start_length = sym (length-take-le n bs (omega arith))
 
-  pub start-is-whole : start-size (rules-of v) ≤ length (take n bs)
-  start-is-whole = let y = start-length in omega arith
+  pub start_is_whole : start_size (rules_of v) ≤ length (take n bs)
+  start_is_whole = let y = start_length in omega arith
 
-  pub start-used : 6 ≤ n
-  start-used = let y = start-has-registers v in omega arith
+  pub start_used : 6 ≤ n
+  start_used = let y = start_has_registers v in omega arith
 
-  pub start-within-bytes : n ≤ length bs
-  start-within-bytes = omega arith
+  pub start_within_bytes : n ≤ length bs
+  start_within_bytes = omega arith
 
-module _ (x : Loading) (m bs : List ℕ) (e : Bool) (is-marked : mark_of bs ≡ some ST) (whole : start-size (rules-of x.is_stored) ≤ length bs) where
-  pub st-before-me : x.has_memory ≡ false → Goes (as-loading x m) bs e (Refused 42) (as-loading x m)
-  unfolding as-loading record-size in_order has
-  st-before-me h = out_of_order ST x m bs e is-marked whole (λ rest. rw h)
+module _ (x : Loading) (m bs : List ℕ) (e : Bool) (is_marked : mark_of bs ≡ some ST) (whole : start_size (rules_of x.is_stored) ≤ length bs) where
+  pub st_before_me : x.has_memory ≡ false → Goes (as_loading x m) bs e (Refused 42) (as_loading x m)
+  unfolding as_loading record_size in_order has
+  st_before_me h = out_of_order ST x m bs e is_marked whole (λ rest. rw h)
 
   module _ (h : x.has_memory ≡ true) where
-    pub second-st : x.has_registers ≡ true → Goes (as-loading x m) bs e (Refused 42) (as-loading x m)
-    unfolding as-loading record-size in_order has
-    second-st g = out_of_order ST x m bs e is-marked whole (λ rest. rw (h, g))
+    pub second_st : x.has_registers ≡ true → Goes (as_loading x m) bs e (Refused 42) (as_loading x m)
+    unfolding as_loading record_size in_order has
+    second_st g = out_of_order ST x m bs e is_marked whole (λ rest. rw (h, g))
 
-    pub st-loaded : x.has_registers ≡ false → (size : ℕ) (r : Registers) → size ≡ start-size (rules-of x.is_stored) →
-        registers-of r ≡ registers-at (take size bs) → delivery-of r ≡ delivery-at (rules-of x.is_stored) (take size bs) →
-        Goes (as-loading x m) bs e (Next size) (as-loading (record { is_stored = x.is_stored; has_memory = x.has_memory; words = x.words; has_registers = true; registers = r }) m)
-    unfolding Goes as-loading outcome-image record-size whole-record-on record-questions in_order memory-allowed address-allowed address-new record-on with-record ask has unless-refused
-    st-loaded g size r s q d rest _ = loading-front ST x m bs is-marked whole rest ∙ rw (h, g, delivery-in x.is_stored m, ← s, ← q, ← d)
+    pub st_loaded : x.has_registers ≡ false → (size : ℕ) (r : Registers) → size ≡ start_size (rules_of x.is_stored) →
+        registers_of r ≡ registers_at (take size bs) → delivery_of r ≡ delivery_at (rules_of x.is_stored) (take size bs) →
+        Goes (as_loading x m) bs e (Next size) (as_loading (record { is_stored = x.is_stored; has_memory = x.has_memory; words = x.words; has_registers = true; registers = r }) m)
+    unfolding Goes as_loading outcome_image record_size whole_record_on record_questions in_order memory_allowed address_allowed address_new record_on with_record ask has unless_refused
+    st_loaded g size r s q d rest _ = loading_front ST x m bs is_marked whole rest ∙ rw (h, g, delivery_in x.is_stored m, ← s, ← q, ← d)
 
 -- RN
-module _ (x : Loading) (m bs : List ℕ) (e : Bool) (is-marked : mark_of bs ≡ some RN) (whole : 6 ≤ length bs) where
-  pub rn-before-me : x.has_memory ≡ false → Goes (as-loading x m) bs e (Refused 42) (as-loading x m)
-  unfolding as-loading record-size in_order has
-  rn-before-me h = out_of_order RN x m bs e is-marked whole (λ rest. rw h)
+module _ (x : Loading) (m bs : List ℕ) (e : Bool) (is_marked : mark_of bs ≡ some RN) (whole : 6 ≤ length bs) where
+  pub rn_before_me : x.has_memory ≡ false → Goes (as_loading x m) bs e (Refused 42) (as_loading x m)
+  unfolding as_loading record_size in_order has
+  rn_before_me h = out_of_order RN x m bs e is_marked whole (λ rest. rw h)
 
   module _ (h : x.has_memory ≡ true) where
-    pub rn-before-st : x.has_registers ≡ false → Goes (as-loading x m) bs e (Refused 42) (as-loading x m)
-    unfolding as-loading record-size in_order has
-    rn-before-st g = out_of_order RN x m bs e is-marked whole (λ rest. rw (h, g))
+    pub rn_before_st : x.has_registers ≡ false → Goes (as_loading x m) bs e (Refused 42) (as_loading x m)
+    unfolding as_loading record_size in_order has
+    rn_before_st g = out_of_order RN x m bs e is_marked whole (λ rest. rw (h, g))
 
     module _ (g : x.has_registers ≡ true) where
-      pub rn-not-last : 6 < length bs → Goes (as-loading x m) bs e (Refused 42) (as-loading x m)
-      unfolding as-loading record-size in_order has
-      rn-not-last k =
-          out_of_order RN x m bs e is-marked whole
+      pub rn_not_last : 6 < length bs → Goes (as_loading x m) bs e (Refused 42) (as_loading x m)
+      unfolding as_loading record_size in_order has
+      rn_not_last k =
+          out_of_order RN x m bs e is_marked whole
           (λ rest. rw (h, g, ne_eqb (length (drop 6 bs ++ rest)) 0 (λ q. let y = length-append (drop 6 bs) rest in let z = length-drop 6 bs in omega arith)))
 
-      pub rn-ends : length bs ≤ 6 → e ≡ true → (b : ℕ) → b ≡ number_at 2 4 bs → Goes (as-loading x m) bs e (Ready b) (as-loading x m)
-      unfolding Goes as-loading outcome-image record-size whole-record-on record-questions in_order memory-allowed address-allowed address-new record-on ask has unless-refused
-      rn-ends k ended b q rest f =
-          let budget : number_at 2 4 (take 6 bs) ≡ b = number-in-record 6 2 4 bs whole (omega arith) ∙ sym q in
-          loading-front RN x m bs is-marked whole rest ∙ rw (h, g, f ended, drop_of_length-le bs k, budget)
+      pub rn_ends : length bs ≤ 6 → e ≡ true → (b : ℕ) → b ≡ number_at 2 4 bs → Goes (as_loading x m) bs e (Ready b) (as_loading x m)
+      unfolding Goes as_loading outcome_image record_size whole_record_on record_questions in_order memory_allowed address_allowed address_new record_on ask has unless_refused
+      rn_ends k ended b q rest f =
+          let budget : number_at 2 4 (take 6 bs) ≡ b = number_in_record 6 2 4 bs whole (omega arith) ∙ sym q in
+          loading_front RN x m bs is_marked whole rest ∙ rw (h, g, f ended, drop_of_length-le bs k, budget)
 
 pub waits : (l : Image.Loading) (bs : List ℕ) (e : Bool) → Goes l bs e Waits l
-unfolding Goes outcome-image
+unfolding Goes outcome_image
 waits l bs e rest _ = refl
 
-pub short-run : (bs : List ℕ) → length bs ≤ 6 → length bs < 66
-short-run bs h = omega arith
+pub short_run : (bs : List ℕ) → length bs ≤ 6 → length bs < 66
+short_run bs h = omega arith
 
-pub ruleset memory-loaded = (given-within, second-me, me-too-large, me-loaded)
+pub ruleset memory_loaded = (given_within, second_me, me_too_large, me_loaded)
 
-pub ruleset start-loaded = (not-true, not-false, start-length, start-is-whole, start-used, start-within-bytes, st-before-me, second-st, st-loaded)
+pub ruleset start_loaded = (not-true, not-false, start_length, start_is_whole, start_used, start_within_bytes, st_before_me, second_st, st_loaded)
 
-pub ruleset run-loaded = (not-true, not-false, rn-before-me, rn-before-st, rn-not-last, rn-ends, waits, short-run)
+pub ruleset run_loaded = (not-true, not-false, rn_before_me, rn_before_st, rn_not_last, rn_ends, waits, short_run)

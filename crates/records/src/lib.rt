@@ -2,10 +2,10 @@
 ghost use Rattle.std.specs.Prelude.{◌≡◌, ◌≤◌, ◌<◌, length};
 ghost use Rattle.std.proofs.Math.Option.{some};
 ghost use Rattle.model.specs.Image as Image;
-ghost use Rattle.fields.specs.Mark.{as-mark, size_of};
-ghost use Rattle.fields.specs.Rules.{rules-of};
-ghost use Rattle.loading.specs.Record.{Recorded-as, Recorded-by-itself, Recorded-with-any-memory};
-ghost use Rattle.loading.specs.View.{Loading-within};
+ghost use Rattle.fields.specs.Mark.{as_mark, size_of};
+ghost use Rattle.fields.specs.Rules.{rules_of};
+ghost use Rattle.loading.specs.Record.{RecordedAs, RecordedByItself, RecordedWithAnyMemory};
+ghost use Rattle.loading.specs.View.{LoadingWithin};
 
 use fields::mark::{Mark, mark_of, size_of, start_size};
 use fields::number::number_4;
@@ -15,7 +15,7 @@ use loading::{Loading, Outcome, Recorded};
 // ME: 42 for a second one, 43, and so many words of memory, which are zeros already.
 fn load_memory(loading: Loading, bytes: &[u8]) -> Recorded
     requires { (Image.mark_of bytes.now ≡ some Image.ME) × (6 ≤ length bytes.now) }
-    ensures { Recorded-by-itself loading bytes.now result }
+    ensures { RecordedByItself loading bytes.now result }
 {
     if loading.has_memory {
         return Recorded {
@@ -45,8 +45,8 @@ fn load_memory(loading: Loading, bytes: &[u8]) -> Recorded
 
 // ST: 42 before ME and for a second one, and the registers, of as many bytes as the rules give it.
 fn load_start(loading: Loading, bytes: &[u8]) -> Recorded
-    requires { (Image.mark_of bytes.now ≡ some Image.ST) × (Image.start-size (rules-of loading.is_stored) ≤ length bytes.now) }
-    ensures { Recorded-by-itself loading bytes.now result }
+    requires { (Image.mark_of bytes.now ≡ some Image.ST) × (Image.start_size (rules_of loading.is_stored) ≤ length bytes.now) }
+    ensures { RecordedByItself loading bytes.now result }
 {
     if !loading.has_memory {
         return Recorded {
@@ -77,7 +77,7 @@ fn load_start(loading: Loading, bytes: &[u8]) -> Recorded
 // RN: 42 before ME or ST and where a byte follows, and the budget once the bytes are ended.
 fn load_run(loading: Loading, bytes: &[u8], ended: bool) -> Recorded
     requires { (Image.mark_of bytes.now ≡ some Image.RN) × (6 ≤ length bytes.now) }
-    ensures { Recorded-with-any-memory loading bytes.now ended result }
+    ensures { RecordedWithAnyMemory loading bytes.now ended result }
 {
     if !loading.has_memory {
         return Recorded {
@@ -111,8 +111,8 @@ fn load_run(loading: Loading, bytes: &[u8], ended: bool) -> Recorded
 
 // No whole record: 42 for no bytes at all and 41 for some, once they are ended.
 fn load_part(loading: Loading, mark: Mark, bytes: &[u8], ended: bool) -> Recorded
-    requires { (as-mark mark ≡ Image.mark_of bytes.now) × (length bytes.now < size_of (rules-of loading.is_stored) mark) }
-    ensures { Recorded-with-any-memory loading bytes.now ended result }
+    requires { (as_mark mark ≡ Image.mark_of bytes.now) × (length bytes.now < size_of (rules_of loading.is_stored) mark) }
+    ensures { RecordedWithAnyMemory loading bytes.now ended result }
 {
     if ended {
         if bytes.len() == 0 {
@@ -134,8 +134,8 @@ fn load_part(loading: Loading, mark: Mark, bytes: &[u8], ended: bool) -> Recorde
 
 // `ended`: no bytes come after these.
 pub fn load_record(loading: Loading, store: &mut [u64], bytes: &[u8], ended: bool) -> Recorded
-    requires { Loading-within loading store.old }
-    ensures { Recorded-as loading store.old bytes.now ended result store.new }
+    requires { LoadingWithin loading store.old }
+    ensures { RecordedAs loading store.old bytes.now ended result store.new }
 {
     let mark = mark_of(bytes);
     if bytes.len() < size_of(mark, loading.is_stored) {

@@ -14,16 +14,16 @@ pub record Answer : Type 0 where
   pub at : ℕ
 
 -- the export: an image and a text buffer; the number negated, or the text's length
-unfoldable pub listing-of : (pointers : Machine → ℕ) → List ℕ → List ℕ
-listing-of p bs = listing p (image bs).budget (record { regs = (image bs).regs; mem = (image bs).mem })
+unfoldable pub listing_of : (pointers : Machine → ℕ) → List ℕ → List ℕ
+listing_of p bs = listing p (image bs).budget (record { regs = (image bs).regs; mem = (image bs).mem })
 
-unfoldable pub bench-refusal : (image : List ℕ) → (room : ℕ) → ℕ
-bench-refusal bs k =
+unfoldable pub bench_refusal : (image : List ℕ) → (room : ℕ) → ℕ
+bench_refusal bs k =
     cond (eqb (image bs).refusal 0) (cond (ltb k (64 * ((image bs).budget + 1))) 45 0) (image bs).refusal
 
-unfoldable pub Bench-says : (refusal : ℕ) → (text : List ℕ) → ℤ → (out out-now : List ℕ) → Type 0
-Bench-says zero t r o q = (r ≡ pos (length t)) × (q ≡ t ++ drop (length t) o)
-Bench-says (suc n) t r o q = (r ≡ negsuc n) × (q ≡ o)
+unfoldable pub BenchSays : (refusal : ℕ) → (text : List ℕ) → ℤ → (out out_now : List ℕ) → Type 0
+BenchSays zero t r o q = (r ≡ pos (length t)) × (q ≡ t ++ drop (length t) o)
+BenchSays (suc n) t r o q = (r ≡ negsuc n) × (q ≡ o)
 
 -- a run over lent registers (A, DBR ADDRESS and LENGTH, then ring, segment and word of IPR and PR0 to PR7: 30 words) and memory
 unfoldable pub place_of : (at : ℕ) → List ℕ → Place
@@ -37,25 +37,25 @@ unfoldable pub regs_of : List ℕ → Regs
 regs_of ws =
     record { a = get_or ws 0 0; base = get_or ws 1 0; bound = get_or ws 2 0; ipr = place_of 3 ws; prs = places_of 8 6 ws }
 
-unfoldable pub place-words : Place → List ℕ
-place-words p = p.ring ∷ p.seg ∷ p.at ∷ []
+unfoldable pub place_words : Place → List ℕ
+place_words p = p.ring ∷ p.seg ∷ p.at ∷ []
 
-unfoldable pub all-place-words : List Place → List ℕ
-all-place-words [] = []
-all-place-words (p ∷ ps) = place-words p ++ all-place-words ps
+unfoldable pub all_place_words : List Place → List ℕ
+all_place_words [] = []
+all_place_words (p ∷ ps) = place_words p ++ all_place_words ps
 
-unfoldable pub regs-words : Regs → List ℕ
-regs-words r = (r.a ∷ r.base ∷ r.bound ∷ []) ++ place-words r.ipr ++ all-place-words r.prs
+unfoldable pub regs_words : Regs → List ℕ
+regs_words r = (r.a ∷ r.base ∷ r.bound ∷ []) ++ place_words r.ipr ++ all_place_words r.prs
 
 unfoldable pub tells : Reply → Answer → Type 0
 tells p r =
-    (r.kind ≡ p.kind) × (r.number ≡ p.number) × (r.count ≡ p.count) × (r.ring ≡ p.where-at.ring) × (r.seg ≡ p.where-at.seg)
-    × (r.at ≡ p.where-at.at)
+    (r.kind ≡ p.kind) × (r.number ≡ p.number) × (r.count ≡ p.count) × (r.ring ≡ p.where_at.ring) × (r.seg ≡ p.where_at.seg)
+    × (r.at ≡ p.where_at.at)
 
-pub record Run-says (b : ℕ) (ws mem : List ℕ) (r : Answer) (ws-now mem-now : List ℕ) : Type 0 where
-  pub short : (length ws ≡ 30 → ⊥) → (r.kind ≡ 0) × (r.number ≡ 2) × (r.count ≡ 0) × (ws-now ≡ ws) × (mem-now ≡ mem)
+pub record RunSays (b : ℕ) (ws mem : List ℕ) (r : Answer) (ws_now mem_now : List ℕ) : Type 0 where
+  pub short : (length ws ≡ 30 → ⊥) → (r.kind ≡ 0) × (r.number ≡ 2) × (r.count ≡ 0) × (ws_now ≡ ws) × (mem_now ≡ mem)
   pub right :
       length ws ≡ 30 →
       tells (run b (record { regs = regs_of ws; mem = mem })).reply r
-      × (ws-now ≡ regs-words (run b (record { regs = regs_of ws; mem = mem })).machine.regs)
-      × (mem-now ≡ (run b (record { regs = regs_of ws; mem = mem })).machine.mem)
+      × (ws_now ≡ regs_words (run b (record { regs = regs_of ws; mem = mem })).machine.regs)
+      × (mem_now ≡ (run b (record { regs = regs_of ws; mem = mem })).machine.mem)

@@ -53,43 +53,43 @@ no_place = record { ring = 0; seg = 0; at = 0 }
 unfoldable pub pr : Regs → ℕ → Place
 pr r i = get_or r.prs i no_place
 
-unfoldable pub descriptor-of : Regs → (mem : List ℕ) → (seg : ℕ) → Descriptor
-descriptor-of r m s = descriptor (get_or m (r.base + s) 0)
+unfoldable pub descriptor_of : Regs → (mem : List ℕ) → (seg : ℕ) → Descriptor
+descriptor_of r m s = descriptor (get_or m (r.base + s) 0)
 
 -- 11 to 14 of a segment, and 15 of a word number
-unfoldable pub segment-refusal : Regs → (mem : List ℕ) → (seg : ℕ) → ℕ
-segment-refusal r m s =
-    let d = descriptor-of r m s in
+unfoldable pub segment_refusal : Regs → (mem : List ℕ) → (seg : ℕ) → ℕ
+segment_refusal r m s =
+    let d = descriptor_of r m s in
     cond (leb r.bound s) 11
     (cond (not d.valid) 12
     (cond (not (leb d.r1 d.r2 && leb d.r2 d.r3)) 13 (cond (ltb (length m) (d.start + d.long)) 14 0)))
 
-unfoldable pub use-refusal : Regs → (mem : List ℕ) → Place → ℕ
-use-refusal r m p =
-    let k = segment-refusal r m p.seg in
-    cond (not (eqb k 0)) k (cond (ltb p.at (descriptor-of r m p.seg).long) 0 15)
+unfoldable pub use_refusal : Regs → (mem : List ℕ) → Place → ℕ
+use_refusal r m p =
+    let k = segment_refusal r m p.seg in
+    cond (not (eqb k 0)) k (cond (ltb p.at (descriptor_of r m p.seg).long) 0 15)
 
 unfoldable pub absolute : Regs → (mem : List ℕ) → Place → ℕ
-absolute r m p = (descriptor-of r m p.seg).start + p.at
+absolute r m p = (descriptor_of r m p.seg).start + p.at
 
 unfoldable pub word_at : Regs → (mem : List ℕ) → Place → ℕ
 word_at r m p = get_or m (absolute r m p) 0
 
 -- 1 to 4, before a run or step
-unfoldable pub place-good : Place → Bool
-place-good p = leb p.ring 7 && (leb p.seg 4095 && leb p.at 65535)
+unfoldable pub place_good : Place → Bool
+place_good p = leb p.ring 7 && (leb p.seg 4095 && leb p.at 65535)
 
-unfoldable pub places-good : List Place → Bool
-places-good [] = true
-places-good (p ∷ ps) = place-good p && places-good ps
+unfoldable pub places_good : List Place → Bool
+places_good [] = true
+places_good (p ∷ ps) = place_good p && places_good ps
 
-unfoldable pub rings-from : (least : ℕ) → List Place → Bool
-rings-from n [] = true
-rings-from n (p ∷ ps) = leb n p.ring && rings-from n ps
+unfoldable pub rings_from : (least : ℕ) → List Place → Bool
+rings_from n [] = true
+rings_from n (p ∷ ps) = leb n p.ring && rings_from n ps
 
-unfoldable pub start-refusal : Regs → (mem : List ℕ) → ℕ
-start-refusal r m =
+unfoldable pub start_refusal : Regs → (mem : List ℕ) → ℕ
+start_refusal r m =
     cond (ltb 16777216 (length m)) 1
-    (cond (not (place-good r.ipr && (places-good r.prs && leb r.base 16777215))) 2
-    (cond (not (rings-from r.ipr.ring r.prs)) 3
+    (cond (not (place_good r.ipr && (places_good r.prs && leb r.base 16777215))) 2
+    (cond (not (rings_from r.ipr.ring r.prs)) 3
     (cond (ltb 4096 r.bound || ltb (length m) (r.base + r.bound)) 4 0)))

@@ -1,13 +1,13 @@
 // RCU: the registers of a frame taken up.
 ghost use Rattle.std.specs.Prelude.{◌≡◌, map, ◌+◌, ◌<◌, ◌≤◌, length, take, drop};
-ghost use Rattle.model.specs.Words.{descriptor-in, pointer_in};
-ghost use Rattle.model.specs.Questions.{rings-at-least, part-questions};
+ghost use Rattle.model.specs.Words.{descriptor_in, pointer_in};
+ghost use Rattle.model.specs.Questions.{rings_at_least, part_questions};
 ghost use Rattle.model.specs.Step as Step;
 ghost use Rattle.words.specs.View.{as_pointer};
-ghost use Rattle.segments.specs.Translation.{as-dbr, Segment-fits, Segment-holds, looked};
+ghost use Rattle.segments.specs.Translation.{as_dbr, SegmentFits, SegmentHolds, looked};
 ghost use Rattle.state.specs.declared.End.TheVariants.{Faulted};
-ghost use Rattle.state.specs.View.{as-pointers, Ready, passed-by};
-ghost use Rattle.restore.specs.Taken.{Ends-as, Taken};
+ghost use Rattle.state.specs.View.{as_pointers, Ready, passed_by};
+ghost use Rattle.restore.specs.Taken.{EndsAs, Taken};
 
 use questions::Use;
 use segments::translate::{Dbr, Translated};
@@ -24,8 +24,8 @@ pub struct Settled {
 
 // The thirteen words, a part of the segment's own.
 fn frame_at(memory: &[u64], d: Descriptor, word: WordNumber) -> &[u64]
-    requires { ((descriptor-in d.0).address + (descriptor-in d.0).length ≤ length memory.now) × (word.0 + 13 ≤ (descriptor-in d.0).length) }
-    ensures { result.now ≡ take 13 (drop ((descriptor-in d.0).address + word.0) memory.now) }
+    requires { ((descriptor_in d.0).address + (descriptor_in d.0).length ≤ length memory.now) × (word.0 + 13 ≤ (descriptor_in d.0).length) }
+    ensures { result.now ≡ take 13 (drop ((descriptor_in d.0).address + word.0) memory.now) }
 {
     let start = words::descriptor::index(words::descriptor::absolute_address(d, word));
     &memory[start..start + 13]
@@ -34,7 +34,7 @@ fn frame_at(memory: &[u64], d: Descriptor, word: WordNumber) -> &[u64]
 // 52: is no PR of the frame in a lower ring?
 fn are_at_least(ring: u64, frame: &[u64]) -> bool
     requires { length frame.now ≡ 13 }
-    ensures { result ≡ rings-at-least ring (map pointer_in (take 8 (drop 5 frame.now))) }
+    ensures { result ≡ rings_at_least ring (map pointer_in (take 8 (drop 5 frame.now))) }
 {
     let mut k: usize = 5;
     while k < 13 {
@@ -49,7 +49,7 @@ fn are_at_least(ring: u64, frame: &[u64]) -> bool
 // PR0 to PR7 become the frame's.
 fn take_prs(prs: &mut [u16; 24], frame: &[u64])
     requires { length frame.now ≡ 13 }
-    ensures { as-pointers prs.new ≡ map pointer_in (take 8 (drop 5 frame.now)) }
+    ensures { as_pointers prs.new ≡ map pointer_in (take 8 (drop 5 frame.now)) }
 {
     let mut k: usize = 0;
     while k < 8 {
@@ -70,7 +70,7 @@ fn faulted(core: Core, n: u8, t: Pointer) -> Settled
 // A, DBR, IPR and the PRs of a frame, 34 and 52 asked first.
 fn take_up(core: Core, prs: &mut [u16; 24], frame: &[u64], words: usize, t: Pointer) -> Settled
     requires { length frame.now ≡ 13 }
-    ensures { Taken core (as-pointers prs.old) words frame.now (as_pointer t) result (as-pointers prs.new) }
+    ensures { Taken core (as_pointers prs.old) words frame.now (as_pointer t) result (as_pointers prs.new) }
 {
     let dbr = operations::access::dbr_in(frame[3]);
     if !operations::access::is_dbr(dbr, words) {
@@ -94,14 +94,14 @@ fn take_up(core: Core, prs: &mut [u16; 24], frame: &[u64], words: usize, t: Poin
 // The look at its frame; a function of its own for speed (docs/PERFORMANCE.md).
 fn look(dbr: Dbr, memory: &[u64], t: Pointer) -> Translated
     requires { dbr.address + dbr.length ≤ length memory.now }
-    ensures { looked (as-dbr dbr) memory.now (as_pointer t) (part-questions 13 (as_pointer t)) result }
+    ensures { looked (as_dbr dbr) memory.now (as_pointer t) (part_questions 13 (as_pointer t)) result }
 {
     segments::access::look(Use::Frame, dbr, memory, t, t)
 }
 
 pub fn restore(core: Core, prs: &mut [u16; 24], memory: &[u64], t: Pointer) -> Settled
     requires { Ready core memory.now }
-    ensures { Ends-as core (as-pointers prs.old) memory.now (Step.restore (length memory.now) (as_pointer t)) result (as-pointers prs.new) memory.now }
+    ensures { EndsAs core (as_pointers prs.old) memory.now (Step.restore (length memory.now) (as_pointer t)) result (as_pointers prs.new) memory.now }
 {
     let dbr = core.dbr;
     restored(core, prs, memory, t, look(dbr, memory, t))
@@ -115,8 +115,8 @@ pub fn restored(
     t: Pointer,
     x: Translated,
 ) -> Settled
-    requires { Segment-fits x (length memory.now) × Segment-holds x (t.word.0 + 12) }
-    ensures { Ends-as core (as-pointers prs.old) memory.now (passed-by x (as_pointer t) (λ d. Step.take-up (length memory.now) (as_pointer t) (Step.registers-in (take 13 (drop (d.address + t.word.0) memory.now))))) result (as-pointers prs.new) memory.now }
+    requires { SegmentFits x (length memory.now) × SegmentHolds x (t.word.0 + 12) }
+    ensures { EndsAs core (as_pointers prs.old) memory.now (passed_by x (as_pointer t) (λ d. Step.take_up (length memory.now) (as_pointer t) (Step.registers_in (take 13 (drop (d.address + t.word.0) memory.now))))) result (as_pointers prs.new) memory.now }
 {
     match x {
         Translated::Refused(n) => faulted(core, n, t),

@@ -1,14 +1,14 @@
 // A run of plain steps under a budget: the loop around the step, and its trace. What a step does not take from the word that passed before
 // leaves the inner loop, so that the compiler lays it out of the way.
 ghost use Rattle.std.specs.Prelude.{◌≡◌, ◌≤◌, ◌<◌, length};
-ghost use Rattle.model.specs.Registers.{no-delivery};
-ghost use Rattle.model.specs.Questions.{start-questions};
-ghost use Rattle.words.specs.View.{as_pointer, Pointer-within};
-ghost use Rattle.segments.specs.Translation.{Code-right};
-ghost use Rattle.state.specs.View.{as-machine};
+ghost use Rattle.model.specs.Registers.{no_delivery};
+ghost use Rattle.model.specs.Questions.{start_questions};
+ghost use Rattle.words.specs.View.{as_pointer, PointerWithin};
+ghost use Rattle.segments.specs.Translation.{CodeRight};
+ghost use Rattle.state.specs.View.{as_machine};
 ghost use Rattle.dispatch.specs.Plain.{plain_step};
-ghost use Rattle.processor.specs.Step.{Ready-to-perform, quickly-formed};
-ghost use Rattle.run.specs.Run.{run_by, Counted, Noted, Ran-as, Traced, Went-as, next-formed};
+ghost use Rattle.processor.specs.Step.{ReadyToPerform, QuicklyFormed};
+ghost use Rattle.run.specs.Run.{run_by, Counted, Noted, RanAs, Traced, WentAs, NextFormed};
 
 use processor::{Formed, Prepared};
 use state::reply::Reply;
@@ -38,7 +38,7 @@ pub struct Went {
 
 // IPR after a step and its pointer words, at the step's place in the trace; a step past the trace's end leaves it alone.
 pub fn note(trace: &mut [u64], count: u32, p: Pointer, pointers: u64)
-    requires { Pointer-within p × (pointers ≤ 64) }
+    requires { PointerWithin p × (pointers ≤ 64) }
     ensures { Noted count (record { ipr = as_pointer p; pointers = pointers }) trace.old trace.new }
 {
     let i = count as usize;
@@ -57,8 +57,8 @@ fn next(
     count: u32,
     budget: u32,
 ) -> Prepared
-    requires { (start-questions no-delivery (as-machine core prs.now memory.now) ≡ 0) × Code-right code.0 core.ipr.ring (length memory.now) }
-    ensures { next-formed count budget (as-machine core prs.now memory.now) result }
+    requires { (start_questions no_delivery (as_machine core prs.now memory.now) ≡ 0) × CodeRight code.0 core.ipr.ring (length memory.now) }
+    ensures { NextFormed count budget (as_machine core prs.now memory.now) result }
 {
     if budget <= count {
         return Prepared::No;
@@ -79,8 +79,8 @@ fn go_on(
     budget: u32,
     trace: &mut [u64],
 ) -> Went
-    requires { (start-questions no-delivery (as-machine core prs.old memory.old) ≡ 0) × Ready-to-perform (as-machine core prs.old memory.old) first at read × Code-right code.0 core.ipr.ring (length memory.old) × (start < budget) }
-    ensures { Went-as budget start (as-machine core prs.old memory.old) trace.old result (as-machine result.core prs.new memory.new) trace.new }
+    requires { (start_questions no_delivery (as_machine core prs.old memory.old) ≡ 0) × ReadyToPerform (as_machine core prs.old memory.old) first at read × CodeRight code.0 core.ipr.ring (length memory.old) × (start < budget) }
+    ensures { WentAs budget start (as_machine core prs.old memory.old) trace.old result (as_machine result.core prs.new memory.new) trace.new }
 {
     let mut x = After {
         core,
@@ -153,8 +153,8 @@ pub fn run(
     budget: u32,
     trace: &mut [u64],
 ) -> Ran
-    requires { start-questions no-delivery (as-machine core prs.old memory.old) ≡ 0 }
-    ensures { Ran-as no-delivery (run_by plain_step budget 0 (as-machine core prs.old memory.old)) result (as-machine result.core prs.new memory.new) × Traced plain_step budget (as-machine core prs.old memory.old) result trace.old trace.new × Counted plain_step budget (as-machine core prs.old memory.old) result }
+    requires { start_questions no_delivery (as_machine core prs.old memory.old) ≡ 0 }
+    ensures { RanAs no_delivery (run_by plain_step budget 0 (as_machine core prs.old memory.old)) result (as_machine result.core prs.new memory.new) × Traced plain_step budget (as_machine core prs.old memory.old) result trace.old trace.new × Counted plain_step budget (as_machine core prs.old memory.old) result }
 {
     let mut at = core;
     let mut count: u32 = 0;

@@ -2,21 +2,21 @@
 use mathlib.Core.Path.{◌≡◌, refl}
 use Prim.Native.Nat.{ℕ}
 use lib.Dec.{lit≤}
-use Rattle.model.specs.Registers.{no-delivery, machine}
-use Rattle.model.specs.Cases.{case-12-registers, case-12-words, case-12}
+use Rattle.model.specs.Registers.{no_delivery, machine}
+use Rattle.model.specs.Cases.{case_12_registers, case_12_words, case_12}
 use Rattle.model.specs.Run.{stretch}
-use Rattle.model.proofs.Computing.{by-computation}
-use Rattle.secrecy.specs.Example.{memory-with, Formula-stays-secret}
-use Rattle.secrecy.proofs.ByComputation.{differs, agree-by-test, unwritable-by-test}
-use Rattle.secrecy.proofs.RingsHold.{rings-hold}
+use Rattle.model.proofs.Computing.{by_computation}
+use Rattle.secrecy.specs.Example.{memory_with, FormulaStaysSecret}
+use Rattle.secrecy.proofs.ByComputation.{differs, agree_by_test, unwritable_by_test}
+use Rattle.secrecy.proofs.RingsHold.{rings_hold}
 
-pub stretch-ends-with-call : (quantity : ℕ) → stretch no-delivery 4 9 (machine case-12-registers (memory-with quantity)) ≡ 2
-unfolding by-computation case-12-registers case-12-words case-12 memory-with
-stretch-ends-with-call q = refl
+pub stretch_ends_with_call : (quantity : ℕ) → stretch no_delivery 4 9 (machine case_12_registers (memory_with quantity)) ≡ 2
+unfolding by_computation case_12_registers case_12_words case_12 memory_with
+stretch_ends_with_call q = refl
 
-pub formula-stays-secret : Formula-stays-secret
-unfolding by-computation differs case-12-registers case-12-words case-12 memory-with
-formula-stays-secret v b p q =
-    rings-hold v 4 b case-12-registers (memory-with p) (memory-with q) (lit≤ tt) (lit≤ tt) refl
-    (agree-by-test 4 (machine case-12-registers (memory-with p)) (memory-with p) (memory-with q) 64 (lit≤ tt) (lit≤ tt) refl)
-    (unwritable-by-test 4 (machine case-12-registers (memory-with p)) refl)
+pub formula_stays_secret : FormulaStaysSecret
+unfolding by_computation differs case_12_registers case_12_words case_12 memory_with
+formula_stays_secret v b p q =
+    rings_hold v 4 b case_12_registers (memory_with p) (memory_with q) (lit≤ tt) (lit≤ tt) refl
+    (agree_by_test 4 (machine case_12_registers (memory_with p)) (memory_with p) (memory_with q) 64 (lit≤ tt) (lit≤ tt) refl)
+    (unwritable_by_test 4 (machine case_12_registers (memory_with p)) refl)

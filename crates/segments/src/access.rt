@@ -1,9 +1,9 @@
 // The uses of a segment, the one way to it: 11 to 15, the questions of the use, and the one access that follows a yes.
 ghost use Rattle.std.specs.Prelude.{◌≡◌, ◌+◌, ◌≤◌, length};
-ghost use Rattle.model.specs.Questions.{write-questions};
+ghost use Rattle.model.specs.Questions.{write_questions};
 ghost use Rattle.words.specs.View.{as_pointer};
-ghost use Rattle.questions.specs.Use.{questions-of};
-ghost use Rattle.segments.specs.Translation.{as-dbr, asked_of, Segment-fits, Segment-holds, looked, word-by, accessed, answer-of, written-by, Writes};
+ghost use Rattle.questions.specs.Use.{questions_of};
+ghost use Rattle.segments.specs.Translation.{as_dbr, asked_of, SegmentFits, SegmentHolds, looked, word_by, accessed, answer_of, written_by, Writes};
 
 use crate::translate::{Dbr, Translated};
 use questions::Use;
@@ -19,7 +19,7 @@ pub enum Accessed {
 
 // The questions of the use by the instruction at `ipr`, once 11 to 15 are answered.
 pub fn ask(by: Use, x: Translated, ipr: Pointer, t: Pointer) -> Translated
-    ensures { result ≡ asked_of (questions-of by (as_pointer ipr) (as_pointer t)) x }
+    ensures { result ≡ asked_of (questions_of by (as_pointer ipr) (as_pointer t)) x }
 {
     match x {
         Translated::Refused(n) => Translated::Refused(n),
@@ -36,15 +36,15 @@ pub fn ask(by: Use, x: Translated, ipr: Pointer, t: Pointer) -> Translated
 // A look at the descriptor, by the instruction at `ipr`.
 pub fn look(by: Use, dbr: Dbr, memory: &[u64], ipr: Pointer, t: Pointer) -> Translated
     requires { dbr.address + dbr.length ≤ length memory.now }
-    ensures { looked (as-dbr dbr) memory.now (as_pointer t) (questions-of by (as_pointer ipr) (as_pointer t)) result }
+    ensures { looked (as_dbr dbr) memory.now (as_pointer t) (questions_of by (as_pointer ipr) (as_pointer t)) result }
 {
     ask(by, crate::translate::translate(dbr, memory, t), ipr, t)
 }
 
 // The word there, once the use is answered.
 pub fn word_by(x: Translated, memory: &[u64], t: Pointer) -> Accessed
-    requires { Segment-fits x (length memory.now) × Segment-holds x t.word.0 }
-    ensures { result ≡ word-by memory.now t.word.0 x }
+    requires { SegmentFits x (length memory.now) × SegmentHolds x t.word.0 }
+    ensures { result ≡ word_by memory.now t.word.0 x }
 {
     match x {
         Translated::Refused(n) => Accessed::Refused(n),
@@ -55,15 +55,15 @@ pub fn word_by(x: Translated, memory: &[u64], t: Pointer) -> Accessed
 // A word for a reader: a fetch, a pointer word or an operand.
 pub fn read(by: Use, dbr: Dbr, memory: &[u64], t: Pointer) -> Accessed
     requires { dbr.address + dbr.length ≤ length memory.now }
-    ensures { accessed (as-dbr dbr) memory.now (as_pointer t) (questions-of by (as_pointer t) (as_pointer t)) result }
+    ensures { accessed (as_dbr dbr) memory.now (as_pointer t) (questions_of by (as_pointer t) (as_pointer t)) result }
 {
     word_by(look(by, dbr, memory, t, t), memory, t)
 }
 
 // That word becomes `value`, once the use is answered. 0 is a yes to all.
 pub fn write_by(x: Translated, memory: &mut [u64], t: Pointer, value: u64) -> u8
-    requires { Segment-fits x (length memory.old) × Segment-holds x t.word.0 }
-    ensures { (result ≡ answer-of x) × (memory.new ≡ written-by memory.old t.word.0 value x) }
+    requires { SegmentFits x (length memory.old) × SegmentHolds x t.word.0 }
+    ensures { (result ≡ answer_of x) × (memory.new ≡ written_by memory.old t.word.0 value x) }
 {
     match x {
         Translated::Refused(n) => n,
@@ -77,7 +77,7 @@ pub fn write_by(x: Translated, memory: &mut [u64], t: Pointer, value: u64) -> u8
 // An operand becomes `value`. 0 is a yes to all.
 pub fn write(dbr: Dbr, memory: &mut [u64], t: Pointer, value: u64) -> u8
     requires { dbr.address + dbr.length ≤ length memory.old }
-    ensures { Writes (as-dbr dbr) memory.old (as_pointer t) (write-questions (as_pointer t)) value result memory.new }
+    ensures { Writes (as_dbr dbr) memory.old (as_pointer t) (write_questions (as_pointer t)) value result memory.new }
 {
     write_by(look(Use::Write, dbr, memory, t, t), memory, t, value)
 }

@@ -1,7 +1,7 @@
 // Translation of a pointer through its segment's descriptor: questions 11 to 15.
 ghost use Rattle.std.specs.Prelude.{◌≡◌, ◌+◌, ◌≤◌, length};
 ghost use Rattle.words.specs.View.{as_pointer};
-ghost use Rattle.segments.specs.Translation.{as-dbr, descriptor-answer, word-answer, passed-unless, translated};
+ghost use Rattle.segments.specs.Translation.{as_dbr, descriptor_answer, word_answer, passed_unless, translated};
 
 use words::descriptor::Descriptor;
 use words::pointer::Pointer;
@@ -22,7 +22,7 @@ pub enum Translated {
 
 // 12 to 14 of a descriptor in a memory of so many words; 0 is a yes to all.
 pub fn descriptor_answer(d: Descriptor, words: usize) -> u8
-    ensures { result ≡ descriptor-answer words d.0 }
+    ensures { result ≡ descriptor_answer words d.0 }
 {
     if !words::descriptor::is_valid(d) {
         return 12;
@@ -43,7 +43,7 @@ pub fn descriptor_answer(d: Descriptor, words: usize) -> u8
 
 // 12 to 15 of a descriptor, wherever it was found.
 pub fn judge(d: Descriptor, words: usize, p: Pointer) -> Translated
-    ensures { result ≡ passed-unless (word-answer words d.0 p.word.0) d }
+    ensures { result ≡ passed_unless (word_answer words d.0 p.word.0) d }
 {
     let n = descriptor_answer(d, words);
     if n != 0 {
@@ -57,7 +57,7 @@ pub fn judge(d: Descriptor, words: usize, p: Pointer) -> Translated
 
 pub fn translate(dbr: Dbr, memory: &[u64], p: Pointer) -> Translated
     requires { dbr.address + dbr.length ≤ length memory.now }
-    ensures { translated (as-dbr dbr) memory.now (as_pointer p) result }
+    ensures { translated (as_dbr dbr) memory.now (as_pointer p) result }
 {
     let segment = p.segment.0;
     if dbr.length <= segment {

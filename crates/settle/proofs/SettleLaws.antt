@@ -5,107 +5,107 @@ use mathlib.Core.List.{List}
 use Prim.Native.Nat.{ℕ, zero, suc}
 use lib.ListN.{length}
 use Rattle.model.specs.Words as Words
-use Rattle.model.specs.Registers.{Delivery, Machine, machine, with-ipr}
-use Rattle.model.specs.Questions.{start-questions}
+use Rattle.model.specs.Registers.{Delivery, Machine, machine, with_ipr}
+use Rattle.model.specs.Questions.{start_questions}
 use Rattle.model.specs.Program.{faults, completes, execute}
 use Rattle.model.specs.Step as Step
 use Rattle.model.specs.Step.{step}
-use Rattle.model.specs.Deliver.{delivers, saved, deliver, step-with}
-use Rattle.model.proofs.FaultLaws.{fault-pointer-within}
-use Rattle.model.proofs.DeliveredLaws.{completes-as-plain, unsaved-as-plain}
-use Rattle.words.specs.View.{as_pointer, Pointer-within}
+use Rattle.model.specs.Deliver.{delivers, saved, deliver, step_with}
+use Rattle.model.proofs.FaultLaws.{fault_pointer_within}
+use Rattle.model.proofs.DeliveredLaws.{completes_as_plain, unsaved_as_plain}
+use Rattle.words.specs.View.{as_pointer, PointerWithin}
 use Rattle.words.specs.declared.pointer.Pointer.{Pointer}
-use Rattle.state.specs.View.{as-pointers, as-machine, Becomes, ended}
+use Rattle.state.specs.View.{as_pointers, as_machine, Becomes, ended}
 use Rattle.state.specs.declared.Core.{Core}
-use Rattle.state.proofs.PassingLaws.{ipr-passing, prs-in-range, address-passing, length-passing, ready-passing}
+use Rattle.state.proofs.PassingLaws.{ipr_passing, prs_in_range, address_passing, length_passing, ready_passing}
 use Rattle.state.specs.declared.End.TheVariants.{Completed, Halted, Faulted}
 use Rattle.dispatch.specs.Plain.{stopped}
 use Rattle.restore.specs.declared.Settled.{Settled}
 use Rattle.frames.specs.Frame.{Savable, Delivers}
-use Rattle.restore.specs.Taken.{Ends-as}
+use Rattle.restore.specs.Taken.{EndsAs}
 use Rattle.settle.specs.Settles.{Settles}
 
 module _ (dv : Delivery) where
   -- WHAT 1 TO 4 GIVE
-  module _ (c : Core) (prs m : List ℕ) (e : start-questions dv (as-machine c prs m) ≡ 0) where
-    pub savable-passing : Savable c prs
-    savable-passing =
+  module _ (c : Core) (prs m : List ℕ) (e : start_questions dv (as_machine c prs m) ≡ 0) where
+    pub savable_passing : Savable c prs
+    savable_passing =
         record {
-          ipr-within = ipr-passing _ c prs m e;
-          address-within = address-passing _ c prs m e;
-          length-within = length-passing _ c prs m e;
-          prs-in-range = prs-in-range _ c prs m e;
+          ipr_within = ipr_passing _ c prs m e;
+          address_within = address_passing _ c prs m e;
+          length_within = length_passing _ c prs m e;
+          prs_in_range = prs_in_range _ c prs m e;
         }
 
   -- A STEP THAT FAULTS: what delivering answered
-  module _ (c : Core) (prs m : List ℕ) (n : ℕ) (t : Pointer) (s : step (as-machine c prs m) ≡ faults n (as_pointer t)) (m-now : List ℕ) (a : Bool)
-      (d : Delivers dv n (as_pointer t) (as-machine c prs m) a m-now) where
-    delivered-step : delivers dv (as-machine c prs m) ≡ true → step-with dv (as-machine c prs m) ≡ completes (saved dv n (as_pointer t) (as-machine c prs m))
-    unfolding step-with deliver
-    delivered-step e = rw (s, e)
+  module _ (c : Core) (prs m : List ℕ) (n : ℕ) (t : Pointer) (s : step (as_machine c prs m) ≡ faults n (as_pointer t)) (m_now : List ℕ) (a : Bool)
+      (d : Delivers dv n (as_pointer t) (as_machine c prs m) a m_now) where
+    delivered_step : delivers dv (as_machine c prs m) ≡ true → step_with dv (as_machine c prs m) ≡ completes (saved dv n (as_pointer t) (as_machine c prs m))
+    unfolding step_with deliver
+    delivered_step e = rw (s, e)
 
-    pub fault-delivered : a ≡ true → (h : Core) → Becomes c (with-ipr (record { ring = 0; segment = dv.handler; word = 0 })) h →
-        Settles dv (as-machine c prs m) (record { core = h; end = Completed }) (as-machine h prs m-now)
+    pub fault_delivered : a ≡ true → (h : Core) → Becomes c (with_ipr (record { ring = 0; segment = dv.handler; word = 0 })) h →
+        Settles dv (as_machine c prs m) (record { core = h; end = Completed }) (as_machine h prs m_now)
     unfolding ended saved machine
-    fault-delivered f h g =
+    fault_delivered f h g =
         record {
           ends =
-              delivered-step (sym d.same ∙ f)
-              ∙ ap completes (sym (λ j. record { registers = g.registers-same (as-pointers prs) j; memory = d.written f j }));
+              delivered_step (sym d.same ∙ f)
+              ∙ ap completes (sym (λ j. record { registers = g.registers_same (as_pointers prs) j; memory = d.written f j }));
           within = tt;
         }
 
-    pub fault-stays : a ≡ false → Pointer-within t → Settles dv (as-machine c prs m) (record { core = c; end = Faulted n t }) (as-machine c prs m-now)
+    pub fault_stays : a ≡ false → PointerWithin t → Settles dv (as_machine c prs m) (record { core = c; end = Faulted n t }) (as_machine c prs m_now)
     unfolding ended
-    fault-stays f w =
+    fault_stays f w =
         record {
-          ends = (unsaved-as-plain dv (as-machine c prs m) (sym d.same ∙ f) ∙ s, λ j. as-machine c prs (d.kept f j));
+          ends = (unsaved_as_plain dv (as_machine c prs m) (sym d.same ∙ f) ∙ s, λ j. as_machine c prs (d.kept f j));
           within = w;
         }
 
   -- IT STOPPED WITH A FAULT
-  pub stopped-faults : (m : Machine) (size n : ℕ) (t : Words.Pointer) → step m ≡ execute m (stopped size n t) → (n ≡ 0 → ⊥) → step m ≡ faults n t
+  pub stopped_faults : (m : Machine) (size n : ℕ) (t : Words.Pointer) → step m ≡ execute m (stopped size n t) → (n ≡ 0 → ⊥) → step m ≡ faults n t
   unfolding stopped execute
-  stopped-faults m size zero t s z = absurd (z refl)
-  stopped-faults m size (suc n) t s z = s
+  stopped_faults m size zero t s z = absurd (z refl)
+  stopped_faults m size (suc n) t s z = s
 
   -- IT STOPPED AT RCU, which has ended
-  module _ (c : Core) (prs m : List ℕ) (n : ℕ) (u : Words.Pointer) (s : step (as-machine c prs m) ≡ execute (as-machine c prs m) (stopped (length m) n u)) (z : n ≡ 0)
-      (x : Settled) (prs-now m-now : List ℕ) (h : Ends-as c (as-pointers prs) m (Step.restore (length m) u) x (as-pointers prs-now) m-now) where
-    as_step : ended (as-machine c prs m) (step (as-machine c prs m)) x.end (as-machine x.core prs-now m-now)
+  module _ (c : Core) (prs m : List ℕ) (n : ℕ) (u : Words.Pointer) (s : step (as_machine c prs m) ≡ execute (as_machine c prs m) (stopped (length m) n u)) (z : n ≡ 0)
+      (x : Settled) (prs_now m_now : List ℕ) (h : EndsAs c (as_pointers prs) m (Step.restore (length m) u) x (as_pointers prs_now) m_now) where
+    as_step : ended (as_machine c prs m) (step (as_machine c prs m)) x.end (as_machine x.core prs_now m_now)
     unfolding stopped
     as_step =
-        subst (λ o. ended (as-machine c prs m) o x.end (as-machine x.core prs-now m-now))
-        (sym (s ∙ ap (λ i. execute (as-machine c prs m) (stopped (length m) i u)) z)) h.ends
+        subst (λ o. ended (as_machine c prs m) o x.end (as_machine x.core prs_now m_now))
+        (sym (s ∙ ap (λ i. execute (as_machine c prs m) (stopped (length m) i u)) z)) h.ends
 
-    pub restore-completes : x.end ≡ Completed → Settles dv (as-machine c prs m) (record { core = x.core; end = Completed }) (as-machine x.core prs-now m-now)
+    pub restore_completes : x.end ≡ Completed → Settles dv (as_machine c prs m) (record { core = x.core; end = Completed }) (as_machine x.core prs_now m_now)
     unfolding ended
-    restore-completes e = record { ends = (completes-as-plain dv _ _).0 (rw e at as_step); within = tt }
+    restore_completes e = record { ends = (completes_as_plain dv _ _).0 (rw e at as_step); within = tt }
 
-    pub restore-halts : x.end ≡ Halted → Settles dv (as-machine c prs m) (record { core = x.core; end = Halted }) (as-machine x.core prs-now m-now)
+    pub restore_halts : x.end ≡ Halted → Settles dv (as_machine c prs m) (record { core = x.core; end = Halted }) (as_machine x.core prs_now m_now)
     unfolding ended
-    restore-halts e = record { ends = (completes-as-plain dv _ _).1 (rw e at as_step); within = tt }
+    restore_halts e = record { ends = (completes_as_plain dv _ _).1 (rw e at as_step); within = tt }
 
     module _ (i : ℕ) (p : Pointer) (e : x.end ≡ Faulted i p) where
-      faulted-step : (step (as-machine c prs m) ≡ faults i (as_pointer p)) × (as-machine x.core prs-now m-now ≡ as-machine c prs m)
+      faulted_step : (step (as_machine c prs m) ≡ faults i (as_pointer p)) × (as_machine x.core prs_now m_now ≡ as_machine c prs m)
       unfolding ended
-      faulted-step = rw e at as_step
+      faulted_step = rw e at as_step
 
-      pub restore-faults : step (as-machine x.core prs-now m-now) ≡ faults i (as_pointer p)
-      restore-faults = ap step faulted-step.1 ∙ faulted-step.0
+      pub restore_faults : step (as_machine x.core prs_now m_now) ≡ faults i (as_pointer p)
+      restore_faults = ap step faulted_step.1 ∙ faulted_step.0
 
-      pub restore-settles : (y : Settled) (k : Machine) → Settles dv (as-machine x.core prs-now m-now) y k → Settles dv (as-machine c prs m) y k
-      restore-settles y k f = subst (λ o. Settles dv o y k) faulted-step.1 f
+      pub restore_settles : (y : Settled) (k : Machine) → Settles dv (as_machine x.core prs_now m_now) y k → Settles dv (as_machine c prs m) y k
+      restore_settles y k f = subst (λ o. Settles dv o y k) faulted_step.1 f
 
-      module _ (q : start-questions dv (as-machine c prs m) ≡ 0) where
-        pub restore-passes : start-questions dv (as-machine x.core prs-now m-now) ≡ 0
-        restore-passes = ap (start-questions dv) faulted-step.1 ∙ q
+      module _ (q : start_questions dv (as_machine c prs m) ≡ 0) where
+        pub restore_passes : start_questions dv (as_machine x.core prs_now m_now) ≡ 0
+        restore_passes = ap (start_questions dv) faulted_step.1 ∙ q
 
-        pub restore-within : Pointer-within p
-        restore-within =
-            let w = fault-pointer-within dv (as-machine c prs m) i (as_pointer p) q faulted-step.0 in
-            record { ring-within = w.ring-within; segment-within = w.segment-within; word-within = w.word-within }
+        pub restore_within : PointerWithin p
+        restore_within =
+            let w = fault_pointer_within dv (as_machine c prs m) i (as_pointer p) q faulted_step.0 in
+            record { ring_within = w.ring_within; segment_within = w.segment_within; word_within = w.word_within }
 
-pub ruleset faultings = (ready-passing, savable-passing, fault-delivered, fault-stays)
+pub ruleset faultings = (ready_passing, savable_passing, fault_delivered, fault_stays)
 
-pub ruleset settlings = (ready-passing, stopped-faults, restore-completes, restore-halts, restore-faults, restore-settles, restore-passes, restore-within)
+pub ruleset settlings = (ready_passing, stopped_faults, restore_completes, restore_halts, restore_faults, restore_settles, restore_passes, restore_within)

@@ -1,11 +1,11 @@
 // The step at which a run of plain steps stopped: RCU performed, and a fault delivered where it can be.
 ghost use Rattle.std.specs.Prelude.{◌≡◌, length};
 ghost use Rattle.model.specs.Registers as Registers;
-ghost use Rattle.model.specs.Questions.{start-questions};
+ghost use Rattle.model.specs.Questions.{start_questions};
 ghost use Rattle.model.specs.Program.{execute, faults};
 ghost use Rattle.model.specs.Step.{step};
-ghost use Rattle.words.specs.View.{as_pointer, Pointer-within};
-ghost use Rattle.state.specs.View.{as-machine, as-delivery, Becomes};
+ghost use Rattle.words.specs.View.{as_pointer, PointerWithin};
+ghost use Rattle.state.specs.View.{as_machine, as_delivery, Becomes};
 ghost use Rattle.dispatch.specs.Plain.{stopped};
 ghost use Rattle.settle.specs.Settles.{Settles};
 
@@ -15,7 +15,7 @@ use words::pointer::{Pointer, SegmentNumber, WordNumber};
 
 // Where a delivered fault leads: ring 0, handler segment, word 0.
 pub fn handled(delivery: Delivery, core: Core) -> Core
-    ensures { Becomes core (Registers.with-ipr (record { ring = 0; segment = delivery.handler; word = 0 })) result }
+    ensures { Becomes core (Registers.with_ipr (record { ring = 0; segment = delivery.handler; word = 0 })) result }
 {
     let p = Pointer {
         ring: 0,
@@ -34,8 +34,8 @@ fn settle_fault(
     number: u8,
     t: Pointer,
 ) -> Settled
-    requires { (start-questions (as-delivery delivery) (as-machine core prs.now memory.old) ≡ 0) × (step (as-machine core prs.now memory.old) ≡ faults number (as_pointer t)) × Pointer-within t }
-    ensures { Settles (as-delivery delivery) (as-machine core prs.now memory.old) result (as-machine result.core prs.now memory.new) }
+    requires { (start_questions (as_delivery delivery) (as_machine core prs.now memory.old) ≡ 0) × (step (as_machine core prs.now memory.old) ≡ faults number (as_pointer t)) × PointerWithin t }
+    ensures { Settles (as_delivery delivery) (as_machine core prs.now memory.old) result (as_machine result.core prs.now memory.new) }
 {
     if frames::deliver(delivery, core, prs, memory, number, t) {
         return Settled {
@@ -58,8 +58,8 @@ pub fn settle(
     number: u8,
     t: Pointer,
 ) -> Settled
-    requires { (start-questions (as-delivery delivery) (as-machine core prs.old memory.old) ≡ 0) × (step (as-machine core prs.old memory.old) ≡ execute (as-machine core prs.old memory.old) (stopped (length memory.old) number (as_pointer t))) × Pointer-within t }
-    ensures { Settles (as-delivery delivery) (as-machine core prs.old memory.old) result (as-machine result.core prs.new memory.new) }
+    requires { (start_questions (as_delivery delivery) (as_machine core prs.old memory.old) ≡ 0) × (step (as_machine core prs.old memory.old) ≡ execute (as_machine core prs.old memory.old) (stopped (length memory.old) number (as_pointer t))) × PointerWithin t }
+    ensures { Settles (as_delivery delivery) (as_machine core prs.old memory.old) result (as_machine result.core prs.new memory.new) }
 {
     if number != 0 {
         return settle_fault(delivery, core, prs, memory, number, t);

@@ -1,7 +1,7 @@
 // The laptop's program: an image on standard input, its listing on standard output.
 ghost use Rattle.std.specs.Prelude.{◌≡◌};
-ghost use Rattle.model.specs.Questions.{start-questions};
-ghost use Rattle.state.specs.View.{as-machine, as-delivery};
+ghost use Rattle.model.specs.Questions.{start_questions};
+ghost use Rattle.state.specs.View.{as_machine, as_delivery};
 
 use chunks::Line;
 use host::record::Registers;
@@ -10,7 +10,7 @@ use state::{Core, Delivery};
 
 // Prints a run's listing as its steps complete, and stops where nobody reads it any more.
 fn print_listing(delivery: Delivery, core: Core, start: [u16; 24], memory: &mut [u64], budget: u32)
-    requires { start-questions (as-delivery delivery) (as-machine core start memory.old) ≡ 0 }
+    requires { start_questions (as_delivery delivery) (as_machine core start memory.old) ≡ 0 }
 {
     let mut text = io::large_buffer();
     let mut prs = start;

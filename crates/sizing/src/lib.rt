@@ -1,9 +1,9 @@
 // What an image will need: its records are read as loading reads them, and no word of them is kept.
 ghost use Rattle.std.specs.Prelude.{◌≡◌, ◌-◌, ◌/◌, replicate};
 ghost use Rattle.model.specs.Image.{checked};
-ghost use Rattle.model.specs.Needs.{needs-refused, needs-on, image-needs};
-ghost use Rattle.host.specs.Record.{machine-of, delivery-of};
-ghost use Rattle.sizing.specs.View.{as-needs};
+ghost use Rattle.model.specs.Needs.{needs_refused, needs_on, image_needs};
+ghost use Rattle.host.specs.Record.{machine_of, delivery_of};
+ghost use Rattle.sizing.specs.View.{as_needs};
 
 use host::record::Registers;
 use image::load::LoadOutcome;
@@ -21,7 +21,7 @@ pub struct Needs {
 }
 
 pub fn refused(number: u8) -> Needs
-    ensures { as-needs result ≡ needs-refused number }
+    ensures { as_needs result ≡ needs_refused number }
 {
     Needs {
         number: number as u64,
@@ -45,7 +45,7 @@ fn records_in(length: u64) -> u64
 
 // Once RN has come: 1 to 4 with ME's number as memory's size, then the figures of an image of so many bytes.
 pub fn needs_of(registers: Registers, words: u32, budget: u32, length: u64) -> Needs
-    ensures { as-needs result ≡ needs-on (checked (delivery-of registers) (machine-of registers (replicate words 0)) budget) ((length - 78) / 14) }
+    ensures { as_needs result ≡ needs_on (checked (delivery_of registers) (machine_of registers (replicate words 0)) budget) ((length - 78) / 14) }
 {
     let n = host::start::record_size_answer(registers, words as usize);
     if n != 0 {
@@ -63,7 +63,7 @@ pub fn needs_of(registers: Registers, words: u32, budget: u32, length: u64) -> N
 
 // A whole image.
 pub fn needs_in(image: &[u8]) -> Needs
-    ensures { as-needs result ≡ image-needs image.now }
+    ensures { as_needs result ≡ image_needs image.now }
 {
     let mut set = loading::empty_set();
     let x = image::load::load(loading::nothing_loaded(false), &mut set, image, true);

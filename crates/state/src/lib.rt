@@ -2,8 +2,8 @@
 ghost use Rattle.std.specs.Prelude.{◌≡◌, max};
 ghost use Rattle.model.specs.Registers as Registers;
 ghost use Rattle.words.specs.View.{as_pointer};
-ghost use Rattle.segments.specs.Translation.{as-dbr};
-ghost use Rattle.state.specs.View.{Becomes, Completes, faulted-after};
+ghost use Rattle.segments.specs.Translation.{as_dbr};
+ghost use Rattle.state.specs.View.{Becomes, Completes, faulted_after};
 
 use segments::translate::Dbr;
 use words::descriptor::Descriptor;
@@ -58,21 +58,21 @@ pub fn moved(p: Pointer, words: u16) -> Pointer
 }
 
 pub fn with_a(mut core: Core, a: u64) -> Core
-    ensures { Becomes core (Registers.with-a a) result }
+    ensures { Becomes core (Registers.with_a a) result }
 {
     core.a = a;
     core
 }
 
 pub fn with_dbr(mut core: Core, dbr: Dbr) -> Core
-    ensures { Becomes core (Registers.with-dbr (as-dbr dbr)) result }
+    ensures { Becomes core (Registers.with_dbr (as_dbr dbr)) result }
 {
     core.dbr = dbr;
     core
 }
 
 pub fn with_ipr(mut core: Core, p: Pointer) -> Core
-    ensures { Becomes core (Registers.with-ipr (as_pointer p)) result }
+    ensures { Becomes core (Registers.with_ipr (as_pointer p)) result }
 {
     core.ipr = p;
     core
@@ -99,7 +99,7 @@ pub fn completed(core: Core, code: Descriptor) -> After
 
 // A fault leaves the core as it was.
 pub fn faulted(core: Core, code: Descriptor, n: u8, t: Pointer) -> After
-    ensures { result ≡ faulted-after core code n t }
+    ensures { result ≡ faulted_after core code n t }
 {
     After {
         core,

@@ -1,8 +1,8 @@
 // The PRs where the host's record has them: three numbers each, RING in the lower byte of the first, SEGNO and WORDNO.
 ghost use Rattle.std.specs.Prelude.{◌≡◌, ◌<◌, ◌≤◌, length, if◌then◌else◌, nat_eq, slice_set};
-ghost use Rattle.model.specs.Step.{stack-base};
+ghost use Rattle.model.specs.Step.{stack_base};
 ghost use Rattle.words.specs.View.{as_pointer};
-ghost use Rattle.state.specs.View.{as-pointers, pr-of};
+ghost use Rattle.state.specs.View.{as_pointers, pr_of};
 
 use words::pointer::{Pointer, SegmentNumber, WordNumber};
 
@@ -22,7 +22,7 @@ fn wide(n: u16) -> u64
 
 pub fn pr(prs: &[u16; 24], number: usize) -> Pointer
     requires { number < 8 }
-    ensures { (as_pointer result ≡ pr-of prs.now number) × (result.ring ≤ 255) × (result.segment.0 ≤ 65535) × (result.word.0 ≤ 65535) }
+    ensures { (as_pointer result ≡ pr_of prs.now number) × (result.ring ≤ 255) × (result.segment.0 ≤ 65535) × (result.word.0 ≤ 65535) }
 {
     let i = 3 * number;
     Pointer {
@@ -34,7 +34,7 @@ pub fn pr(prs: &[u16; 24], number: usize) -> Pointer
 
 pub fn set_pr(prs: &mut [u16; 24], number: usize, p: Pointer)
     requires { (number < 8) × (p.ring ≤ 255) × (p.segment.0 ≤ 65535) × (p.word.0 ≤ 65535) }
-    ensures { as-pointers prs.new ≡ slice_set (as-pointers prs.old) number (as_pointer p) }
+    ensures { as_pointers prs.new ≡ slice_set (as_pointers prs.old) number (as_pointer p) }
 {
     let _count = size(prs);
     let i = 3 * number;
@@ -57,7 +57,7 @@ fn stack_place(before: u64, ring: u64) -> usize
 // the loop of a run, and cost every step.
 pub fn set_stack_base(prs: &mut [u16; 24], before: u64, ring: u64)
     requires { ring ≤ 7 }
-    ensures { as-pointers prs.new ≡ slice_set (as-pointers prs.old) 7 (stack-base before ring (pr-of prs.old 6)) }
+    ensures { as_pointers prs.new ≡ slice_set (as_pointers prs.old) 7 (stack_base before ring (pr_of prs.old 6)) }
 {
     let _count = size(prs);
     prs[21] = ring as u16;

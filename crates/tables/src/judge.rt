@@ -2,7 +2,7 @@
 ghost use Rattle.std.specs.Prelude.{◌≡◌, ◌≤◌, length};
 ghost use Rattle.model.specs.Brackets as Brackets;
 ghost use Rattle.tables.specs.View.{as_row, as_rows};
-ghost use Rattle.tables.specs.Next.{Next-row};
+ghost use Rattle.tables.specs.Next.{NextRow};
 
 // 53 of one row.
 fn is_row_fit(row: [u16; 5], segments: u16) -> bool
@@ -41,7 +41,7 @@ fn is_in_row(row: [u16; 5], segment: u16) -> bool
 // The place of the first row from one on that a segment is in; past the last where it is in none.
 pub fn next_row(rows: &[[u16; 5]], from: usize, segment: u16) -> usize
     requires { from ≤ length rows.now }
-    ensures { Next-row segment rows.now from result }
+    ensures { NextRow segment rows.now from result }
 {
     let mut i = from;
     while i < rows.len() {
@@ -55,7 +55,7 @@ pub fn next_row(rows: &[[u16; 5]], from: usize, segment: u16) -> usize
 
 // 54 and 55 of a segment.
 fn segment_answer(rows: &[[u16; 5]], segment: u16) -> u8
-    ensures { result ≡ Brackets.one-row (Brackets.rows_of segment (as_rows rows.now)) }
+    ensures { result ≡ Brackets.one_row (Brackets.rows_of segment (as_rows rows.now)) }
 {
     let own = next_row(rows, 0, segment);
     if own == rows.len() {
@@ -70,7 +70,7 @@ fn segment_answer(rows: &[[u16; 5]], segment: u16) -> u8
 
 // Of all segments; the lowest at fault decides.
 pub fn segments_answer(rows: &[[u16; 5]], segments: u16) -> u8
-    ensures { result ≡ Brackets.segments-questions segments 0 (as_rows rows.now) }
+    ensures { result ≡ Brackets.segments_questions segments 0 (as_rows rows.now) }
 {
     let mut segment = 0;
     while segment < segments {

@@ -7,7 +7,7 @@ ghost use Rattle.tables.specs.View.{as_row, as_rows};
 use crate::judge::next_row;
 
 fn flag_bit(flag: u64) -> u64
-    ensures { (result ≡ Brackets.flag-bit flag) × (result ≤ 1) }
+    ensures { (result ≡ Brackets.flag_bit flag) × (result ≤ 1) }
 {
     if flag == 0 { 0 } else { 1 }
 }
@@ -27,7 +27,7 @@ fn second_byte(pair: u16) -> u64
 
 // Bits 40 to 51: R1, R2, R3, R, W and E.
 fn bracket_bits(row: [u16; 5]) -> u64
-    ensures { result ≡ Brackets.bracket-bits (as_row row) }
+    ensures { result ≡ Brackets.bracket_bits (as_row row) }
 {
     first_byte(row[2])
         + 8 * second_byte(row[2])

@@ -1,7 +1,7 @@
 // Pointers, and the pointer word that holds one.
 ghost use Rattle.std.specs.Prelude.{◌≡◌};
-ghost use Rattle.model.specs.Words.{indirect-in, pointer_word};
-ghost use Rattle.words.specs.View.{as_pointer, Pointer-within, Decoded-pointer};
+ghost use Rattle.model.specs.Words.{indirect_in, pointer_word};
+ghost use Rattle.words.specs.View.{as_pointer, PointerWithin, DecodedPointer};
 
 #[derive(Drop)]
 pub struct SegmentNumber(pub u64);
@@ -19,7 +19,7 @@ pub struct Pointer {
 
 // The pointer in a pointer word; bits 31 to 63 are ignored.
 pub fn decode(w: u64) -> Pointer
-    ensures { Decoded-pointer w result }
+    ensures { DecodedPointer w result }
 {
     Pointer {
         ring: (w >> 28) % 8,
@@ -30,14 +30,14 @@ pub fn decode(w: u64) -> Pointer
 
 // I of a pointer word.
 pub fn is_indirect(w: u64) -> bool
-    ensures { result ≡ indirect-in w }
+    ensures { result ≡ indirect_in w }
 {
     (w >> 31) % 2 == 1
 }
 
 // The pointer word of a pointer, I off and bits 32 to 63 zero.
 pub fn encode(p: Pointer) -> u64
-    requires { Pointer-within p }
+    requires { PointerWithin p }
     ensures { result ≡ pointer_word (as_pointer p) }
 {
     p.word.0 + 65536 * p.segment.0 + 268435456 * p.ring

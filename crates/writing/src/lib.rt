@@ -1,7 +1,7 @@
 // An image of registers and memory, written into a text.
 ghost use Rattle.std.specs.Prelude.{◌≡◌, ◌≤◌, ◌+◌, ◌*◌, length};
-ghost use Rattle.model.specs.Write.{written-image};
-ghost use Rattle.host.specs.Record.{machine-of, delivery-of};
+ghost use Rattle.model.specs.Write.{written_image};
+ghost use Rattle.host.specs.Record.{machine_of, delivery_of};
 ghost use Rattle.text.specs.Text.{placed};
 
 use crate::memory::put_words;
@@ -16,7 +16,7 @@ mod start;
 // ME, ST, a WD for each word that isn't zero, and RN, from the front of the text; the answer is how many bytes they have.
 pub fn put_image(text: &mut [u8], registers: Registers, memory: &[u64], budget: u32) -> usize
     requires { 78 + 14 * length memory.now ≤ length text.old }
-    ensures { (text.new ≡ placed 0 (written-image (delivery-of registers) (machine-of registers memory.now) budget) text.old) × (result ≡ length (written-image (delivery-of registers) (machine-of registers memory.now) budget)) × (result ≤ length text.new) }
+    ensures { (text.new ≡ placed 0 (written_image (delivery_of registers) (machine_of registers memory.now) budget) text.old) × (result ≡ length (written_image (delivery_of registers) (machine_of registers memory.now) budget)) × (result ≤ length text.new) }
 {
     let at_start = put_marked(text, 0, b"ME", memory.len() as u64);
     let at_words = put_start(text, at_start, registers);

@@ -1,10 +1,10 @@
 // The registers and what faults do, as an ST record.
 ghost use Rattle.std.specs.Prelude.{◌++◌, ◌≤◌, ◌+◌, length};
 ghost use Rattle.model.specs.Listing.{ascii};
-ghost use Rattle.model.specs.Write.{bytes, pointer-bytes, pointers-bytes, ST-record};
+ghost use Rattle.model.specs.Write.{bytes, pointer_bytes, pointers_bytes, ST_record};
 ghost use Rattle.words.specs.View.{as_pointer};
-ghost use Rattle.state.specs.View.{as-pointers};
-ghost use Rattle.host.specs.Record.{registers-of, delivery-of};
+ghost use Rattle.state.specs.View.{as_pointers};
+ghost use Rattle.host.specs.Record.{registers_of, delivery_of};
 ghost use Rattle.text.specs.Text.{Put};
 
 use crate::number::put_number;
@@ -24,7 +24,7 @@ fn put_three(text: &mut [u8], at: usize, first: u64, second: u64, third: u64) ->
 // RING, SEGNO and WORDNO.
 fn put_pointer(text: &mut [u8], at: usize, p: Pointer) -> usize
     requires { at + 5 ≤ length text.old }
-    ensures { Put 5 at (pointer-bytes (as_pointer p)) text.old text.new result }
+    ensures { Put 5 at (pointer_bytes (as_pointer p)) text.old text.new result }
 {
     put_three(text, at, p.ring, p.segment.0, p.word.0)
 }
@@ -32,7 +32,7 @@ fn put_pointer(text: &mut [u8], at: usize, p: Pointer) -> usize
 // PR0 to PR7.
 fn put_prs(text: &mut [u8], at: usize, prs: &[u16; 24]) -> usize
     requires { at + 40 ≤ length text.old }
-    ensures { Put 40 at (pointers-bytes (as-pointers prs.now)) text.old text.new result }
+    ensures { Put 40 at (pointers_bytes (as_pointers prs.now)) text.old text.new result }
 {
     let mut next = at;
     let mut k = 0;
@@ -57,7 +57,7 @@ fn put_base(text: &mut [u8], at: usize, a: u64, dbr: DescriptorBase) -> usize
 // ST: A, DBR, IPR, the PRs, then the switch, the save segment and the handler segment.
 pub fn put_start(text: &mut [u8], at: usize, registers: Registers) -> usize
     requires { at + 66 ≤ length text.old }
-    ensures { Put 66 at (ST-record (registers-of registers) (delivery-of registers)) text.old text.new result }
+    ensures { Put 66 at (ST_record (registers_of registers) (delivery_of registers)) text.old text.new result }
 {
     let at_ipr = put_base(text, at, registers.a, registers.dbr);
     let at_prs = put_pointer(text, at_ipr, to_core(registers.ipr));

@@ -1,6 +1,6 @@
 -- `is_in` meets its contract. Assumes nothing.
 use borrow.Author.Rules.{rules}
-use Rattle.addresses.specs.Set.{in-set}
+use Rattle.addresses.specs.Set.{in_set}
 use Rattle.addresses.proofs.is_in.Statement.{statement}
 use Rattle.addresses.proofs.is_in.Tie as tie
 
@@ -14,7 +14,7 @@ shr-result : tie.Need-overflow-shr-result
 shr-result c = search rules
 
 returns : tie.Need-returns
-unfolding in-set
+unfolding in_set
 returns c = search rules
 
 pub is-in-spec : {M : Type 1} → statement M

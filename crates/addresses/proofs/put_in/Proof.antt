@@ -1,6 +1,6 @@
 -- `put_in` meets its contract. Assumes nothing.
 use borrow.Author.Rules.{rules}
-use Rattle.addresses.proofs.SetLaws.{put-in-members}
+use Rattle.addresses.proofs.SetLaws.{put_in_members}
 use Rattle.addresses.proofs.put_in.Statement.{statement}
 use Rattle.addresses.proofs.put_in.Tie as tie
 
@@ -23,7 +23,7 @@ same_length : tie.Need-same-length
 same_length c = search rules
 
 returns : tie.Need-returns
-returns c = search (rules, put-in-members)
+returns c = search (rules, put_in_members)
 
 pub put-in-spec : {M : Type 1} → statement M
 put-in-spec = tie.close (tie.spec mul-set slice-read-set shl-set mul-set-2 slice-write-set same_length returns)

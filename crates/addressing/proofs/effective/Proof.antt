@@ -1,6 +1,6 @@
 -- `effective` meets its contract. Assumes nothing.
 use borrow.Author.Rules.{rules}
-use Rattle.addressing.proofs.ChainLaws.{effective-law}
+use Rattle.addressing.proofs.ChainLaws.{effective_law}
 use Rattle.addressing.proofs.effective.Statement.{statement}
 use Rattle.addressing.proofs.effective.Tie as tie
 
@@ -11,7 +11,7 @@ walk-requires : tie.Need-walk-requires
 walk-requires c κs = search rules
 
 returns : tie.Need-returns
-returns c = search (rules, effective-law)
+returns c = search (rules, effective_law)
 
 pub effective-spec : {M : Type 1} → statement M
 effective-spec = tie.close (tie.spec descriptors-of-requires walk-requires returns)

@@ -7,14 +7,14 @@ use borrow.Author.Rules.{rules}
 use Rattle.addressing.proofs.WalkLaws.{walks}
 use Rattle.addressing.proofs.walk.Statement.{statement}
 use Rattle.addressing.proofs.walk.Tie as tie
-use Rattle.addressing.specs.Address.{lent, through, tpr-of, Kept-right}
+use Rattle.addressing.specs.Address.{lent, through, tpr_of, KeptRight}
 
 abbrev invariant-loop : tie.invariant-loop
 invariant-loop descriptors memory left₀ more₀ word₀ ring₀ kept₀ left more word ring kept =
     (left ≤ 64)
-    × (through left more (lent descriptors) memory (tpr-of word ring) ≡ through 64 true (lent descriptors) memory (tpr-of word₀ ring₀))
+    × (through left more (lent descriptors) memory (tpr_of word ring) ≡ through 64 true (lent descriptors) memory (tpr_of word₀ ring₀))
     × (ring ≤ 7)
-    × Kept-right descriptors (length memory) kept
+    × KeptRight descriptors (length memory) kept
 
 abbrev decreases-loop : tie.decreases-loop
 decreases-loop descriptors memory left₀ more₀ word₀ ring₀ kept₀ left more word ring kept = left

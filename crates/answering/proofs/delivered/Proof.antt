@@ -1,5 +1,5 @@
 -- `delivered` meets its contract. Assumes nothing.
-use Rattle.answering.proofs.SaveLaws.{delivers-law}
+use Rattle.answering.proofs.SaveLaws.{delivers_law}
 use borrow.Author.Rules.{rules}
 use Rattle.answering.proofs.delivered.Statement.{statement}
 use Rattle.answering.proofs.delivered.Tie as tie
@@ -20,7 +20,7 @@ same_length : tie.Need-same-length
 same_length c = search rules
 
 returns : tie.Need-returns
-returns c = search (rules, delivers-law)
+returns c = search (rules, delivers_law)
 
 pub delivered-spec : {M : Type 1} → statement M
 delivered-spec =

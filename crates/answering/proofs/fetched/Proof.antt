@@ -1,7 +1,7 @@
 -- `fetched` meets its contract. Assumes nothing.
 use Rattle.answering.proofs.FetchLaws.{fetching}
-use Rattle.answering.proofs.PlaceLaws.{can-fetch}
-use Rattle.pending.proofs.StoreLaws.{fits-law}
+use Rattle.answering.proofs.PlaceLaws.{can_fetch}
+use Rattle.pending.proofs.StoreLaws.{fits_law}
 use borrow.Author.Rules.{rules}
 use Rattle.answering.proofs.fetched.Statement.{statement}
 use Rattle.answering.proofs.fetched.Tie as tie
@@ -10,7 +10,7 @@ judged-requires : tie.Need-judged-requires
 judged-requires c κs = search rules
 
 word-by-requires : tie.Need-word-by-requires
-word-by-requires c κs = search (rules, fits-law)
+word-by-requires c κs = search (rules, fits_law)
 
 enum-known-z : tie.Need-enum-known-z
 enum-known-z c = search rules
@@ -22,7 +22,7 @@ enum-known-z-2 : tie.Need-enum-known-z-2
 enum-known-z-2 c = search rules
 
 obeying-requires : tie.Need-obeying-requires
-obeying-requires c κs = search (rules, can-fetch)
+obeying-requires c κs = search (rules, can_fetch)
 
 returns : tie.Need-returns
 returns c = search (rules, fetching)

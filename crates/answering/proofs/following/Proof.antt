@@ -1,5 +1,5 @@
 -- `following` meets its contract. Assumes nothing.
-use Rattle.answering.proofs.FetchLaws.{follows-law}
+use Rattle.answering.proofs.FetchLaws.{follows_law}
 use borrow.Author.Rules.{rules}
 use Rattle.answering.proofs.following.Statement.{statement}
 use Rattle.answering.proofs.following.Tie as tie
@@ -23,7 +23,7 @@ leading-requires : tie.Need-leading-requires
 leading-requires c κs = search rules
 
 returns : tie.Need-returns
-returns c = search (rules, follows-law)
+returns c = search (rules, follows_law)
 
 pub following-spec : {M : Type 1} → statement M
 following-spec =

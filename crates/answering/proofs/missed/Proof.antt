@@ -1,5 +1,5 @@
 -- `missed` meets its contract. Assumes nothing.
-use Rattle.answering.proofs.PlaceLaws.{miss-counted}
+use Rattle.answering.proofs.PlaceLaws.{miss_counted}
 use borrow.Author.Rules.{rules}
 use Rattle.answering.proofs.missed.Statement.{statement}
 use Rattle.answering.proofs.missed.Tie as tie
@@ -11,7 +11,7 @@ add-requires : tie.Need-add-requires
 add-requires c κs = search rules
 
 returns-2 : tie.Need-returns-2
-returns-2 c = search (rules, miss-counted)
+returns-2 c = search (rules, miss_counted)
 
 pub missed-spec : {M : Type 1} → statement M
 missed-spec = tie.close (tie.spec returns add-requires returns-2)

@@ -1,6 +1,6 @@
 -- `performing` meets its contract. Assumes nothing.
-use Rattle.answering.proofs.PerformLaws.{literal-performs, pointer-performs, halt-performs, transfer-performs, operand-performs, unknown-performs}
-use Rattle.dispatch.proofs.PerformLaws.{tra-entry, tze-entry, tmi-entry}
+use Rattle.answering.proofs.PerformLaws.{literal_performs, pointer_performs, halt_performs, transfer_performs, operand_performs, unknown_performs}
+use Rattle.dispatch.proofs.PerformLaws.{tra_entry, tze_entry, tmi_entry}
 use borrow.Author.Rules.{rules}
 use Rattle.answering.proofs.performing.Statement.{statement}
 use Rattle.answering.proofs.performing.Tie as tie
@@ -51,31 +51,31 @@ using-requires : tie.Need-using-requires
 using-requires c κs = search rules
 
 returns : tie.Need-returns
-returns c = search (rules, operand-performs)
+returns c = search (rules, operand_performs)
 
 failing-requires : tie.Need-failing-requires
 failing-requires c κs = search rules
 
 returns-2 : tie.Need-returns-2
-returns-2 c = search (rules, literal-performs)
+returns-2 c = search (rules, literal_performs)
 
 returns-3 : tie.Need-returns-3
-returns-3 c = search (rules, pointer-performs)
+returns-3 c = search (rules, pointer_performs)
 
 returns-4 : tie.Need-returns-4
-returns-4 c = search (rules, transfer-performs, tra-entry)
+returns-4 c = search (rules, transfer_performs, tra_entry)
 
 returns-5 : tie.Need-returns-5
-returns-5 c = search (rules, transfer-performs, tze-entry)
+returns-5 c = search (rules, transfer_performs, tze_entry)
 
 returns-6 : tie.Need-returns-6
-returns-6 c = search (rules, transfer-performs, tmi-entry)
+returns-6 c = search (rules, transfer_performs, tmi_entry)
 
 returns-7 : tie.Need-returns-7
-returns-7 c = search (rules, halt-performs)
+returns-7 c = search (rules, halt_performs)
 
 returns-8 : tie.Need-returns-8
-returns-8 c = search (rules, unknown-performs)
+returns-8 c = search (rules, unknown_performs)
 
 pub performing-spec : {M : Type 1} → statement M
 performing-spec =

@@ -1,7 +1,7 @@
 -- `pointed` meets its contract. Assumes nothing.
 use Rattle.answering.proofs.FetchLaws.{pointing}
-use Rattle.answering.proofs.PlaceLaws.{can-point}
-use Rattle.pending.proofs.StoreLaws.{fits-law}
+use Rattle.answering.proofs.PlaceLaws.{can_point}
+use Rattle.pending.proofs.StoreLaws.{fits_law}
 use borrow.Author.Rules.{rules}
 use Rattle.answering.proofs.pointed.Statement.{statement}
 use Rattle.answering.proofs.pointed.Tie as tie
@@ -10,7 +10,7 @@ judged-requires : tie.Need-judged-requires
 judged-requires c κs = search rules
 
 word-by-requires : tie.Need-word-by-requires
-word-by-requires c κs = search (rules, fits-law)
+word-by-requires c κs = search (rules, fits_law)
 
 enum-known-z : tie.Need-enum-known-z
 enum-known-z c = search rules
@@ -22,7 +22,7 @@ enum-known-z-2 : tie.Need-enum-known-z-2
 enum-known-z-2 c = search rules
 
 following-requires : tie.Need-following-requires
-following-requires c κs = search (rules, can-point)
+following-requires c κs = search (rules, can_point)
 
 returns : tie.Need-returns
 returns c = search (rules, pointing)

@@ -1,5 +1,5 @@
 -- `restoring` meets its contract. Assumes nothing.
-use Rattle.answering.proofs.RestoreLaws.{frame-fits, restores-law}
+use Rattle.answering.proofs.RestoreLaws.{frame_fits, restores_law}
 use borrow.Author.Rules.{rules}
 use Rattle.answering.proofs.restoring.Statement.{statement}
 use Rattle.answering.proofs.restoring.Tie as tie
@@ -8,13 +8,13 @@ judged-requires : tie.Need-judged-requires
 judged-requires c κs = search rules
 
 restored-requires : tie.Need-restored-requires
-restored-requires c κs = search (rules, frame-fits)
+restored-requires c κs = search (rules, frame_fits)
 
 going-on-requires : tie.Need-going-on-requires
 going-on-requires c κs = search rules
 
 returns : tie.Need-returns
-returns c = search (rules, restores-law)
+returns c = search (rules, restores_law)
 
 pub restoring-spec : {M : Type 1} → statement M
 restoring-spec =

@@ -1,6 +1,6 @@
 -- `saved` meets its contract. Assumes nothing.
-use Rattle.answering.proofs.PlaceLaws.{can-deliver}
-use Rattle.answering.proofs.SaveLaws.{room, save-refused, save-passed}
+use Rattle.answering.proofs.PlaceLaws.{can_deliver}
+use Rattle.answering.proofs.SaveLaws.{room, save_refused, save_passed}
 use borrow.Author.Rules.{rules}
 use Rattle.answering.proofs.saved.Statement.{statement}
 use Rattle.answering.proofs.saved.Tie as tie
@@ -24,16 +24,16 @@ address-of-requires : tie.Need-address-of-requires
 address-of-requires c κs = search rules
 
 delivered-requires : tie.Need-delivered-requires
-delivered-requires c κs = search (rules, can-deliver, room)
+delivered-requires c κs = search (rules, can_deliver, room)
 
 returns : tie.Need-returns
-returns c = search (rules, save-refused)
+returns c = search (rules, save_refused)
 
 same_length : tie.Need-same-length
 same_length c = search rules
 
 returns-2 : tie.Need-returns-2
-returns-2 c = search (rules, save-passed)
+returns-2 c = search (rules, save_passed)
 
 pub saved-spec : {M : Type 1} → statement M
 saved-spec =

@@ -1,6 +1,6 @@
 -- `answer_of` meets its contract. Assumes nothing.
 use borrow.Author.Rules.{rules}
-use Rattle.answers.proofs.AnswerLaws.{refused-answered, spent-answered, halted-answered, fault-answered, replies}
+use Rattle.answers.proofs.AnswerLaws.{refused_answered, spent_answered, halted_answered, fault_answered, replies}
 use Rattle.answers.proofs.answer_of.Statement.{statement}
 use Rattle.answers.proofs.answer_of.Tie as tie
 
@@ -41,16 +41,16 @@ cast-t18 : tie.Need-overflow-cast-t18
 cast-t18 c = search (rules, replies)
 
 returns : tie.Need-returns
-returns c = refused-answered _ _ _ _ _ c.before.before.reply.given.1 (search (rules, c.before.known-told.given)) c.no_pointer.ensures
+returns c = refused_answered _ _ _ _ _ c.before.before.reply.given.1 (search (rules, c.before.known-told.given)) c.no_pointer.ensures
 
 returns-2 : tie.Need-returns-2
-returns-2 c = spent-answered _ _ _ _ _ c.before.before.reply2.given.1 (search (rules, c.before.known-told2.given)) c.no-pointer2.ensures
+returns-2 c = spent_answered _ _ _ _ _ c.before.before.reply2.given.1 (search (rules, c.before.known-told2.given)) c.no-pointer2.ensures
 
 returns-3 : tie.Need-returns-3
-returns-3 c = halted-answered _ _ _ _ _ c.before.before.reply3.given.1 (search (rules, c.before.known-told3.given)) c.no-pointer3.ensures
+returns-3 c = halted_answered _ _ _ _ _ c.before.before.reply3.given.1 (search (rules, c.before.known-told3.given)) c.no-pointer3.ensures
 
 returns-4 : tie.Need-returns-4
-returns-4 c = fault-answered _ _ _ _ _ _ c.before.before.before.requires c.before.reply4.given.1 (search (rules, c.known-told4.given)) (search (rules, c.known-told4.given))
+returns-4 c = fault_answered _ _ _ _ _ _ c.before.before.before.requires c.before.reply4.given.1 (search (rules, c.known-told4.given)) (search (rules, c.known-told4.given))
 
 pub answer-of-spec : {M : Type 1} → statement M
 answer-of-spec =

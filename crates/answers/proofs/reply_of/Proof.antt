@@ -1,7 +1,7 @@
 -- `reply_of` meets its contract. Assumes nothing.
 use mathlib.Core.Path.{refl}
 use borrow.Author.Rules.{rules}
-use Rattle.answers.proofs.AnswerLaws.{replies-fault, replies}
+use Rattle.answers.proofs.AnswerLaws.{replies_fault, replies}
 use Rattle.answers.proofs.reply_of.Statement.{statement}
 use Rattle.answers.proofs.reply_of.Tie as tie
 
@@ -30,7 +30,7 @@ returns-3 : tie.Need-returns-3
 returns-3 c = search (rules, replies)
 
 returns-4 : tie.Need-returns-4
-returns-4 c = replies-fault _ _ refl c.before.before.match.rest.0.0.1 c.before.before.match.rest.0.1 c.before.before.match.rest.1 c.before.before.before.before.requires
+returns-4 c = replies_fault _ _ refl c.before.before.match.rest.0.0.1 c.before.before.match.rest.0.1 c.before.before.match.rest.1 c.before.before.before.before.requires
 
 pub reply-of-spec : {M : Type 1} → statement M
 reply-of-spec =

@@ -1,7 +1,7 @@
 -- `bracket_image` meets its contract. Assumes nothing.
 use mathlib.Core.Path.{sym}
 use lib.Seq.{length-take-le}
-use Rattle.brackets.proofs.AnswerLaws.{front-at-most}
+use Rattle.brackets.proofs.AnswerLaws.{front_at_most}
 use borrow.Author.Rules.{rules}
 use Rattle.brackets.proofs.bracket_image.Statement.{statement}
 use Rattle.brackets.proofs.bracket_image.Tie as tie
@@ -22,7 +22,7 @@ slice-aggregate-print-answer : tie.Need-slice-aggregate-print-answer
 slice-aggregate-print-answer c = sym (length-take-le _ _ (array-borrow-prefix-store c.before))
 
 print-answer-requires : tie.Need-print-answer-requires
-print-answer-requires c κs = search (rules, front-at-most)
+print-answer-requires c κs = search (rules, front_at_most)
 
 returns : tie.Need-returns
 returns c = search rules

@@ -3,13 +3,13 @@ use mathlib.Core.Path.{◌≡◌}
 use Prim.Native.Nat.{◌-◌, ◌≤◌}
 use lib.ListN.{length}
 use borrow.Author.Rules.{rules}
-use Rattle.buffers.specs.Move.{bytes-moved}
+use Rattle.buffers.specs.Move.{bytes_moved}
 use Rattle.buffers.proofs.MoveLaws.{moves}
 use Rattle.buffers.proofs.move_down.Statement.{statement}
 use Rattle.buffers.proofs.move_down.Tie as tie
 
 abbrev invariant-loop : tie.invariant-loop
-invariant-loop buffer₀ from to size i₀ buffer i = (i ≤ size) × (length buffer ≡ length buffer₀) × (buffer ≡ bytes-moved from to i buffer₀)
+invariant-loop buffer₀ from to size i₀ buffer i = (i ≤ size) × (length buffer ≡ length buffer₀) × (buffer ≡ bytes_moved from to i buffer₀)
 
 abbrev decreases-loop : tie.decreases-loop
 decreases-loop buffer₀ from to size i₀ buffer i = size - i

@@ -4,47 +4,47 @@ use Prim.Native.Nat.{◌+◌, ◌-◌, ◌*◌, ◌≤◌}
 use lib.ListN.{length, take}
 use borrow.Author.Rules.{rules}
 use Rattle.model.specs.Listing.{step_lines}
-use Rattle.run.specs.Run.{noted-steps}
+use Rattle.run.specs.Run.{noted_steps}
 use Rattle.text.specs.Text.{placed}
 use Rattle.lines.specs.Kept.{Kept}
-use Rattle.chunks.proofs.ChunkLaws.{line-put, line-long, lines-of-steps}
+use Rattle.chunks.proofs.ChunkLaws.{line_put, line_long, lines_of_steps}
 use Rattle.chunks.proofs.put_steps.Statement.{statement}
 use Rattle.chunks.proofs.put_steps.Tie as tie
 
 abbrev invariant-loop : tie.invariant-loop
 invariant-loop text₀ at count trace steps tens₀ number₀ end₀ i₀ text tens number end i =
-    (i ≤ steps) × (length text ≡ length text₀) × (text ≡ placed at (step_lines count (noted-steps (take i trace))) text₀)
-    × (end ≡ at + length (step_lines count (noted-steps (take i trace)))) × (end ≤ at + 64 * i) × Kept tens number × (number.value ≡ count + i)
+    (i ≤ steps) × (length text ≡ length text₀) × (text ≡ placed at (step_lines count (noted_steps (take i trace))) text₀)
+    × (end ≡ at + length (step_lines count (noted_steps (take i trace)))) × (end ≤ at + 64 * i) × Kept tens number × (number.value ≡ count + i)
 
 abbrev decreases-loop : tie.decreases-loop
 decreases-loop text₀ at count trace steps tens₀ number₀ end₀ i₀ text tens number end i = steps - i
 
 number-of-requires : tie.Need-number-of-requires invariant-loop decreases-loop
-number-of-requires c κs = search (rules, lines-of-steps)
+number-of-requires c κs = search (rules, lines_of_steps)
 
 loop-holds : tie.Need-loop-init invariant-loop decreases-loop
-loop-holds c = search (rules, lines-of-steps)
+loop-holds c = search (rules, lines_of_steps)
 
 next-requires : tie.Need-next-requires invariant-loop decreases-loop
-next-requires c κs = search (rules, lines-of-steps)
+next-requires c κs = search (rules, lines_of_steps)
 
 cast-put-step : tie.Need-overflow-cast-put-step invariant-loop decreases-loop
-cast-put-step c = search (rules, lines-of-steps)
+cast-put-step c = search (rules, lines_of_steps)
 
 mul-put-step : tie.Need-overflow-mul-put-step invariant-loop decreases-loop
-mul-put-step c = search (rules, lines-of-steps)
+mul-put-step c = search (rules, lines_of_steps)
 
 shared-slice-read-put-step : tie.Need-shared-slice-read-put-step invariant-loop decreases-loop
-shared-slice-read-put-step c = search (rules, lines-of-steps)
+shared-slice-read-put-step c = search (rules, lines_of_steps)
 
 put-step-requires : tie.Need-put-step-requires invariant-loop decreases-loop
-put-step-requires c κs = search (rules, lines-of-steps)
+put-step-requires c κs = search (rules, lines_of_steps)
 
 add-i : tie.Need-overflow-add-i invariant-loop decreases-loop
-add-i c = search (rules, lines-of-steps)
+add-i c = search (rules, lines_of_steps)
 
 loop-less : tie.Need-loop-smaller invariant-loop decreases-loop
-loop-less c = search (rules, lines-of-steps)
+loop-less c = search (rules, lines_of_steps)
 
 loop-again : tie.Need-loop-preserved invariant-loop decreases-loop
 loop-again c =
@@ -54,18 +54,18 @@ loop-again c =
     let put = c.before.before.put_step.ensures in (
       search rules,
       search rules,
-      line-put _ _ _ _ _ inv.3 _ more (search rules) _ _ _ inv.6 number put.1 _ _ _ inv.2 put.0 inv.4 put.2 (search rules),
-      line-long _ _ _ _ _ inv.3 _ more (search rules) _ _ _ inv.6 number put.1,
+      line_put _ _ _ _ _ inv.3 _ more (search rules) _ _ _ inv.6 number put.1 _ _ _ inv.2 put.0 inv.4 put.2 (search rules),
+      line_long _ _ _ _ _ inv.3 _ more (search rules) _ _ _ inv.6 number put.1,
       search rules,
       search rules,
       search rules,
     )
 
 same_length : tie.Need-same-length invariant-loop decreases-loop
-same_length c = search (rules, lines-of-steps)
+same_length c = search (rules, lines_of_steps)
 
 returns : tie.Need-returns invariant-loop decreases-loop
-returns c = search (rules, lines-of-steps)
+returns c = search (rules, lines_of_steps)
 
 pub put-steps-spec : {M : Type 1} → statement M
 put-steps-spec =

@@ -1,6 +1,6 @@
 -- `put_step` meets its contract. Assumes nothing.
 use borrow.Author.Rules.{rules}
-use Rattle.close_listing.proofs.StepLaws.{step-lines-put}
+use Rattle.close_listing.proofs.StepLaws.{step_lines_put}
 use Rattle.close_listing.proofs.put_step.Statement.{statement}
 use Rattle.close_listing.proofs.put_step.Tie as tie
 
@@ -8,7 +8,7 @@ steps-of-requires : tie.Need-steps-of-requires
 steps-of-requires c κs = search rules
 
 returns : tie.Need-returns
-returns c = search (rules, step-lines-put)
+returns c = search (rules, step_lines_put)
 
 add-number-of : tie.Need-overflow-add-number-of
 add-number-of c = search rules
@@ -23,7 +23,7 @@ same_length : tie.Need-same-length
 same_length c = search rules
 
 returns-2 : tie.Need-returns-2
-returns-2 c = search (rules, step-lines-put)
+returns-2 c = search (rules, step_lines_put)
 
 pub put-step-spec : {M : Type 1} → statement M
 put-step-spec =

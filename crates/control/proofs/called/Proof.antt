@@ -1,6 +1,6 @@
 -- `called` meets its contract. Assumes nothing.
-use Rattle.state.specs.View.{pr-of}
-use Rattle.control.proofs.MoveLaws.{ring-holds, call-refused, call_enters}
+use Rattle.state.specs.View.{pr_of}
+use Rattle.control.proofs.MoveLaws.{ring_holds, call_refused, call_enters}
 use borrow.Author.Rules.{rules}
 use Rattle.control.proofs.called.Statement.{statement}
 use Rattle.control.proofs.called.Tie as tie
@@ -15,16 +15,16 @@ enum-known-x-2 : tie.Need-enum-known-x-2
 enum-known-x-2 c = search rules
 
 set-stack-base-requires : tie.Need-set-stack-base-requires
-set-stack-base-requires c κs = search (rules, ring-holds)
+set-stack-base-requires c κs = search (rules, ring_holds)
 
 entered-requires : tie.Need-entered-requires
 entered-requires c κs = search rules
 
 returns : tie.Need-returns
-returns c = search (rules, call-refused)
+returns c = search (rules, call_refused)
 
 returns-2 : tie.Need-returns-2
-unfolding pr-of
+unfolding pr_of
 returns-2 c = search (rules, call_enters)
 
 pub called-spec : {M : Type 1} → statement M

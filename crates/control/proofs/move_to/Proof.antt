@@ -1,6 +1,6 @@
 -- `move_to` meets its contract. Assumes nothing.
 use borrow.Author.Rules.{rules}
-use Rattle.control.proofs.MoveLaws.{transfer-looked}
+use Rattle.control.proofs.MoveLaws.{transfer_looked}
 use Rattle.control.proofs.move_to.Statement.{statement}
 use Rattle.control.proofs.move_to.Tie as tie
 
@@ -11,7 +11,7 @@ moved-to-requires : tie.Need-moved-to-requires
 moved-to-requires c κs = search rules
 
 returns : tie.Need-returns
-returns c = transfer-looked _ _ _ _ _ c.before.look.ensures _ c.moved_to.ensures
+returns c = transfer_looked _ _ _ _ _ c.before.look.ensures _ c.moved_to.ensures
 
 pub move_to_spec : {M : Type 1} → statement M
 move_to_spec = tie.close (tie.spec look-requires moved-to-requires returns)

@@ -1,6 +1,6 @@
 -- `moved_to` meets its contract. Assumes nothing.
-use Rattle.state.proofs.DoesLaws.{after-look-refused}
-use Rattle.control.proofs.MoveLaws.{transfer-enters}
+use Rattle.state.proofs.DoesLaws.{after_look_refused}
+use Rattle.control.proofs.MoveLaws.{transfer_enters}
 use borrow.Author.Rules.{rules}
 use Rattle.control.proofs.moved_to.Statement.{statement}
 use Rattle.control.proofs.moved_to.Tie as tie
@@ -18,10 +18,10 @@ entered-requires : tie.Need-entered-requires
 entered-requires c κs = search rules
 
 returns : tie.Need-returns
-returns c = λ ps. search (rules, after-look-refused)
+returns c = λ ps. search (rules, after_look_refused)
 
 returns-2 : tie.Need-returns-2
-returns-2 c = λ ps. search (rules, transfer-enters)
+returns-2 c = λ ps. search (rules, transfer_enters)
 
 pub moved-to-spec : {M : Type 1} → statement M
 moved-to-spec =

@@ -2,13 +2,13 @@
 use mathlib.Core.Path.{◌≡◌}
 use Prim.Native.Nat.{◌≤◌, ◌-◌}
 use borrow.Author.Rules.{rules}
-use Rattle.control.proofs.RaiseLaws.{raised-first, raises}
+use Rattle.control.proofs.RaiseLaws.{raised_first, raises}
 use Rattle.control.proofs.raise_rings.Statement.{statement}
 use Rattle.control.proofs.raise_rings.Tie as tie
-use Rattle.state.specs.View.{as-pointers}
+use Rattle.state.specs.View.{as_pointers}
 
 abbrev invariant-loop : tie.invariant-loop
-invariant-loop prs₀ ring k₀ prs k = (k ≤ 8) × (as-pointers prs ≡ raised-first ring k (as-pointers prs₀))
+invariant-loop prs₀ ring k₀ prs k = (k ≤ 8) × (as_pointers prs ≡ raised_first ring k (as_pointers prs₀))
 
 abbrev decreases-loop : tie.decreases-loop
 decreases-loop prs₀ ring k₀ prs k = 8 - k

@@ -1,6 +1,6 @@
 -- `returned` meets its contract. Assumes nothing.
-use Rattle.state.proofs.DoesLaws.{after-look-refused}
-use Rattle.control.proofs.MoveLaws.{return-enters}
+use Rattle.state.proofs.DoesLaws.{after_look_refused}
+use Rattle.control.proofs.MoveLaws.{return_enters}
 use borrow.Author.Rules.{rules}
 use Rattle.control.proofs.returned.Statement.{statement}
 use Rattle.control.proofs.returned.Tie as tie
@@ -21,10 +21,10 @@ entered-requires : tie.Need-entered-requires
 entered-requires c κs = search rules
 
 returns : tie.Need-returns
-returns c = search (rules, after-look-refused)
+returns c = search (rules, after_look_refused)
 
 returns-2 : tie.Need-returns-2
-returns-2 c = search (rules, return-enters)
+returns-2 c = search (rules, return_enters)
 
 pub returned-spec : {M : Type 1} → statement M
 returned-spec =

@@ -1,6 +1,6 @@
 -- `transfer` meets its contract. Assumes nothing.
 use borrow.Author.Rules.{rules}
-use Rattle.control.proofs.MoveLaws.{transfer-not-taken, transfer-taken}
+use Rattle.control.proofs.MoveLaws.{transfer_not_taken, transfer_taken}
 use Rattle.control.proofs.transfer.Statement.{statement}
 use Rattle.control.proofs.transfer.Tie as tie
 
@@ -11,13 +11,13 @@ completed-requires : tie.Need-completed-requires
 completed-requires c κs = search rules
 
 returns : tie.Need-returns
-returns c = transfer-not-taken _ _ _ _ _ _ c.before.before.is-taken.ensures _ c.before.if1.true c.completed.ensures
+returns c = transfer_not_taken _ _ _ _ _ _ c.before.before.is-taken.ensures _ c.before.if1.true c.completed.ensures
 
 move-to-requires : tie.Need-move-to-requires
 move-to-requires c κs = search rules
 
 returns-2 : tie.Need-returns-2
-returns-2 c = transfer-taken _ _ _ _ _ _ c.before.before.is-taken.ensures _ c.before.if1.false c.move-to.ensures
+returns-2 c = transfer_taken _ _ _ _ _ _ c.before.before.is-taken.ensures _ c.before.if1.false c.move-to.ensures
 
 pub transfer-spec : {M : Type 1} → statement M
 transfer-spec =

@@ -2,13 +2,13 @@
 use mathlib.Core.Path.{◌≡◌}
 use lib.ListN.{length}
 use borrow.Author.Rules.{rules}
-use Rattle.convert.specs.Turn.{Turn-within}
+use Rattle.convert.specs.Turn.{TurnWithin}
 use Rattle.convert.proofs.TurnLaws.{news}
 use Rattle.convert.proofs.convert_input.Statement.{statement}
 use Rattle.convert.proofs.convert_input.Tie as tie
 
 abbrev invariant-loop : tie.invariant-loop
-invariant-loop buffer₀ store₀ x₀ turns₀ buffer store x turns = (length buffer ≡ length buffer₀) × Turn-within x.loading x.room store buffer
+invariant-loop buffer₀ store₀ x₀ turns₀ buffer store x turns = (length buffer ≡ length buffer₀) × TurnWithin x.loading x.room store buffer
 
 abbrev decreases-loop : tie.decreases-loop
 decreases-loop buffer₀ store₀ x₀ turns₀ buffer store x turns = turns

@@ -1,5 +1,5 @@
 -- `steps` meets its contract. Assumes nothing.
-use Rattle.delivered.proofs.PartLaws.{steps-noted}
+use Rattle.delivered.proofs.PartLaws.{steps_noted}
 use borrow.Author.Rules.{rules}
 use Rattle.delivered.proofs.steps.Statement.{statement}
 use Rattle.delivered.proofs.steps.Tie as tie
@@ -32,7 +32,7 @@ same-length-2 : tie.Need-same-length-2
 same-length-2 c = search rules
 
 returns : tie.Need-returns
-returns c = steps-noted _ _ _ _ _ _ _ _ c.before.before.before.before.before.before.before.before.place_in.ensures.0 c.before.before.before.before.before.before.before.before.place_in.ensures.1 c.before.before.before.before.before.before.before.before.before.before.before.requires.1 c.before.before.before.before.run.ensures.fits c.before.before.before.before.run.ensures.trace-size (c.before.before.before.before.run.ensures.runs c.before.before.before.before.before.before.before.before.before.before.before.requires.0)
+returns c = steps_noted _ _ _ _ _ _ _ _ c.before.before.before.before.before.before.before.before.place_in.ensures.0 c.before.before.before.before.before.before.before.before.place_in.ensures.1 c.before.before.before.before.before.before.before.before.before.before.before.requires.1 c.before.before.before.before.run.ensures.fits c.before.before.before.before.run.ensures.trace_size (c.before.before.before.before.run.ensures.runs c.before.before.before.before.before.before.before.before.before.before.before.requires.0)
 
 pub steps-spec : {M : Type 1} → statement M
 steps-spec =

@@ -1,5 +1,5 @@
 -- `words_of` meets its contract. Assumes nothing.
-use Rattle.delivered.proofs.StopLaws.{stop-counted}
+use Rattle.delivered.proofs.StopLaws.{stop_counted}
 use borrow.Author.Rules.{rules}
 use Rattle.delivered.proofs.words_of.Statement.{statement}
 use Rattle.delivered.proofs.words_of.Tie as tie
@@ -11,7 +11,7 @@ same_length : tie.Need-same-length
 same_length c = search rules
 
 returns : tie.Need-returns
-returns c = stop-counted _ _ _ _ c.before.before.before.before.before.before.requires.0 c.before.before.before.before.before.before.requires.1 _ _ _ _ c.before.before.step.ensures
+returns c = stop_counted _ _ _ _ c.before.before.before.before.before.before.requires.0 c.before.before.before.before.before.before.requires.1 _ _ _ _ c.before.before.step.ensures
 
 pub words-of-spec : {M : Type 1} → statement M
 words-of-spec =

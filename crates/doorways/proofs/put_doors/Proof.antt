@@ -2,10 +2,10 @@
 use mathlib.Core.Path.{◌≡◌}
 use Prim.Native.Nat.{◌*◌, ◌-◌, ◌≤◌}
 use lib.ListN.{length}
-use Rattle.model.specs.Doors.{doors-from, door-lines}
-use Rattle.host.specs.Record.{machine-of}
+use Rattle.model.specs.Doors.{doors_from, door_lines}
+use Rattle.host.specs.Record.{machine_of}
 use Rattle.text.specs.Text.{Put}
-use Rattle.doorways.proofs.ListLaws.{none_so_far, lines-on, count-on, count-within, all_lines, all-counted}
+use Rattle.doorways.proofs.ListLaws.{none_so_far, lines_on, count_on, count_within, all_lines, all_counted}
 use borrow.Author.Rules.{rules}
 use Rattle.doorways.proofs.put_doors.Statement.{statement}
 use Rattle.doorways.proofs.put_doors.Tie as tie
@@ -13,8 +13,8 @@ use Rattle.doorways.proofs.put_doors.Tie as tie
 abbrev invariant-loop : tie.invariant-loop
 invariant-loop text₀ registers memory lines₀ segment₀ text lines segment =
     (segment ≤ registers.dbr.length) × (length text ≡ length text₀) × (lines.count ≤ segment)
-    × Put (32 * segment) 0 (door-lines (doors-from segment 0 (machine-of registers memory))) text₀ text lines.next
-    × (lines.count ≡ length (doors-from segment 0 (machine-of registers memory)))
+    × Put (32 * segment) 0 (door_lines (doors_from segment 0 (machine_of registers memory))) text₀ text lines.next
+    × (lines.count ≡ length (doors_from segment 0 (machine_of registers memory)))
 
 abbrev decreases-loop : tie.decreases-loop
 decreases-loop text₀ registers memory lines₀ segment₀ text lines segment = registers.dbr.length - segment
@@ -54,9 +54,9 @@ loop-again c =
     let lines = after.put-segment.ensures in (
       search rules,
       search rules,
-      count-within _ _ _ _ _ _ known.2 lines.1,
-      lines-on _ _ turn.if1.true _ _ _ _ _ known.3 lines.0 (search rules),
-      count-on _ _ turn.if1.true _ _ known.4 lines.1,
+      count_within _ _ _ _ _ _ known.2 lines.1,
+      lines_on _ _ turn.if1.true _ _ _ _ _ known.3 lines.0 (search rules),
+      count_on _ _ turn.if1.true _ _ known.4 lines.1,
     )
 
 same_length : tie.Need-same-length invariant-loop decreases-loop
@@ -65,7 +65,7 @@ same_length c = search rules
 returns : tie.Need-returns invariant-loop decreases-loop
 returns c =
     let known = c.before.before.loop.invariant in
-    (all_lines _ _ known.0 c.if1.false _ _ _ (search rules) known.3, all-counted _ _ known.0 c.if1.false _ known.4)
+    (all_lines _ _ known.0 c.if1.false _ _ _ (search rules) known.3, all_counted _ _ known.0 c.if1.false _ known.4)
 
 pub put-doors-spec : {M : Type 1} → statement M
 put-doors-spec =

@@ -1,6 +1,6 @@
 -- `put_faults` meets its contract. Assumes nothing.
 use Rattle.model.specs.Listing.{ascii}
-use Rattle.doorways.proofs.LineLaws.{no-faults-put, faults-put}
+use Rattle.doorways.proofs.LineLaws.{no_faults_put, faults_put}
 use borrow.Author.Rules.{rules}
 use Rattle.doorways.proofs.put_faults.Statement.{statement}
 use Rattle.doorways.proofs.put_faults.Tie as tie
@@ -25,10 +25,10 @@ same_length c = search rules
 
 returns : tie.Need-returns
 unfolding ascii
-returns c = search (rules, faults-put)
+returns c = search (rules, faults_put)
 
 returns-2 : tie.Need-returns-2
-returns-2 c = search (rules, no-faults-put)
+returns-2 c = search (rules, no_faults_put)
 
 pub put-faults-spec : {M : Type 1} → statement M
 put-faults-spec =

@@ -1,6 +1,6 @@
 -- `put_listing` meets its contract. Assumes nothing.
 use Rattle.model.specs.Listing.{ascii}
-use Rattle.doorways.proofs.ListLaws.{refused-put, dbr-length-within, dbr-within-memory, listing-put}
+use Rattle.doorways.proofs.ListLaws.{refused_put, dbr_length_within, dbr_within_memory, listing_put}
 use borrow.Author.Rules.{rules}
 use Rattle.doorways.proofs.put_listing.Statement.{statement}
 use Rattle.doorways.proofs.put_listing.Tie as tie
@@ -22,12 +22,12 @@ same_length c = search rules
 
 returns : tie.Need-returns
 unfolding ascii
-returns c = λ budget. search (rules, refused-put)
+returns c = λ budget. search (rules, refused_put)
 
 put-doors-requires : tie.Need-put-doors-requires
 put-doors-requires c κs =
     let asked = c.before.before.record-answer.ensures in
-    (search rules, dbr-length-within _ _ _ asked c.before.if1.false, dbr-within-memory _ _ _ asked c.before.if1.false)
+    (search rules, dbr_length_within _ _ _ asked c.before.if1.false, dbr_within_memory _ _ _ asked c.before.if1.false)
 
 put-faults-requires : tie.Need-put-faults-requires
 put-faults-requires c κs = search rules
@@ -43,7 +43,7 @@ same-length-2 c = search rules
 
 returns-2 : tie.Need-returns-2
 unfolding ascii
-returns-2 c = λ budget. search (rules, listing-put)
+returns-2 c = λ budget. search (rules, listing_put)
 
 pub put-listing-spec : {M : Type 1} → statement M
 put-listing-spec =

@@ -1,6 +1,6 @@
 -- `bench` meets its contract. Assumes nothing.
 use borrow.Author.Rules.{rules}
-use Rattle.dosing.proofs.BenchLaws.{whole-image}
+use Rattle.dosing.proofs.BenchLaws.{whole_image}
 use Rattle.dosing.proofs.bench.Statement.{statement}
 use Rattle.dosing.proofs.bench.Tie as tie
 
@@ -14,7 +14,7 @@ slice-aggregate-load : tie.Need-slice-aggregate-load
 slice-aggregate-load c = search rules
 
 load-requires : tie.Need-load-requires
-load-requires c κs = search (rules, whole-image)
+load-requires c κs = search (rules, whole_image)
 
 enum-known-outcome : tie.Need-enum-known-outcome
 enum-known-outcome c = search rules
@@ -29,25 +29,25 @@ cast-words : tie.Need-overflow-cast-words
 cast-words c = search rules
 
 array-borrow-prefix-store : tie.Need-array-borrow-prefix-store
-array-borrow-prefix-store c = search (rules, whole-image)
+array-borrow-prefix-store c = search (rules, whole_image)
 
 slice-aggregate-list-loaded : tie.Need-slice-aggregate-list-loaded
-slice-aggregate-list-loaded c = search (rules, whole-image)
+slice-aggregate-list-loaded c = search (rules, whole_image)
 
 list-loaded-requires : tie.Need-list-loaded-requires
 list-loaded-requires c κs = search rules
 
 returns : tie.Need-returns
-returns c = search (rules, whole-image)
+returns c = search (rules, whole_image)
 
 returns-2 : tie.Need-returns-2
-returns-2 c = search (rules, whole-image)
+returns-2 c = search (rules, whole_image)
 
 same_length : tie.Need-same-length
 same_length c = search rules
 
 returns-3 : tie.Need-returns-3
-returns-3 c = search (rules, whole-image)
+returns-3 c = search (rules, whole_image)
 
 pub bench-spec : {M : Type 1} → statement M
 bench-spec =

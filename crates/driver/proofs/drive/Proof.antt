@@ -34,7 +34,7 @@ use denote.Plain.{uint_vals, uint_Tells, uint_Makes}
 use denote.Builtin.{u16, u32, u64, unit, ArrayOf}
 use denote.Ref.{MutBor, MutRef, mut_vals, mut_Tells}
 use denote.Array.{Array}
-use denote.Lend.{LentAgain as LentRef, lends_again as lends-ref-again, comes_back as comes-ref-back}
+use denote.Lend.{LentAgain as LentRef, lends_again as lends_ref_again, comes_back as comes_ref_back}
 use denote.Slice.{slice_val, MutSlice, Room, mut_slice_vals, mut_slice_Tells}
 use denote.Signature.{plain}
 use denote.Steps.{only, owned, nothing, heard, peeks}
@@ -47,20 +47,20 @@ use denote.Triple.Clauses.{ensured, lasts, Lasts}
 use denote.Triple.Table.{entered, cited}
 use denote.Triple.Walked.{says, Stays, needs, stay_slice, stay_ref, stay_none, walk_of, Goes-slice, Goes-ref, Goes-none, AllGo, Walks, ends_at, walked, walk_Meets}
 use denote.Exit.{yes}
-use Rattle.lookup.specs.Lookup.{found, touched, overwritten, replaced-if, without-mark, as-helds}
+use Rattle.lookup.specs.Lookup.{found, touched, overwritten, replaced_if, without_mark, as_helds}
 use Rattle.lookup.specs.declared.Record.{Record}
 use Rattle.lookup.specs.declared.Search.{Search}
 use Rattle.lookup.specs.declared.Entry.{Entry}
-use Rattle.state.specs.View.{as-pointers}
+use Rattle.state.specs.View.{as_pointers}
 use Rattle.state.specs.declared.Delivery.{Delivery}
 use Rattle.pending.specs.declared.Pending.{Pending}
 use Rattle.pending.specs.Left.{remaining, Waits}
 use Rattle.answering.specs.Answer.{Answered}
-use Rattle.driver.specs.Drive.{left-to-ask, Stands, Turned, Drives}
-use Rattle.lookup.proofs.Again.{LentAgain, lends-at, back_at}
+use Rattle.driver.specs.Drive.{left_to_ask, Stands, Turned, Drives}
+use Rattle.lookup.proofs.Again.{LentAgain, lends_at, back_at}
 use Rattle.lookup.proofs.Parts.{after, ty_at}
-use Rattle.driver.proofs.TurnLaws.{found-segment}
-use Rattle.driver.proofs.DriveLaws.{turned_by, is_true, is_false, unmarked-if, cleared-yes, cleared-no, replaced-yes, replaced-no}
+use Rattle.driver.proofs.TurnLaws.{found_segment}
+use Rattle.driver.proofs.DriveLaws.{turned_by, is_true, is_false, unmarked_if, cleared_yes, cleared_no, replaced_yes, replaced_no}
 use Rattle.lookup.specs.contracts.Record as T
 use Rattle.lookup.specs.contracts.Search as S
 use Rattle.lookup.proofs.Search.TheLaws as S'
@@ -258,10 +258,10 @@ record State (del : Delivery) (bud : ℕ) (start : Pending) (hs₀ : List Record
   ps : List ℕ
   m : List ℕ
   fits : Fits pending
-  stands : Stands del bud pending hs (as-pointers ps) m
+  stands : Stands del bud pending hs (as_pointers ps) m
   hs-long : length hs ≡ length hs₀
   m-long : length m ≡ length m₀
-  same : remaining del bud start (as-helds hs₀) (as-pointers ps₀) m₀ ≡ remaining del bud pending (as-helds hs) (as-pointers ps) m
+  same : remaining del bud start (as_helds hs₀) (as_pointers ps₀) m₀ ≡ remaining del bud pending (as_helds hs) (as_pointers ps) m
 
 module _ {M : Type 1} {𝓤 : Ura M} (𝓛 : Logic 𝓤) (at_mem : Memory → SProp 𝓤) (run : Routine → Fun 𝓤) where
   -- the contracts that the proof cites
@@ -277,7 +277,7 @@ module _ {M : Type 1} {𝓤 : Ura M} (𝓛 : Logic 𝓤) (at_mem : Memory → SP
   abbrev Clear : Contract 𝓤
   Clear = triple_of 𝓛 clear.signature (clear.spec 𝓛 at_mem run)
 
-module _ {M : Type 1} {𝓤 : Ura M} (𝓛 : Logic 𝓤) (at_mem : Memory → SProp 𝓤) (run : Routine → Fun 𝓤) (κ₀ κ₁ κ₂ : Lft) (q₀ q₁ q₂ : Share) (b₀ o₀ : ℕ) (γ₀ : GName) (hs₀ : List Record) (b₁ o₁ : ℕ) (γ₁ : GName) (ps₀ : List ℕ) (b₂ o₂ : ℕ) (γ₂ : GName) (m₀ : List ℕ) (del : Delivery) (gdel : Fits-v del) (bud : ℕ) (gbud : bud < 2 ^ 32) (from' : Pending) (gfrom : Fits from') (first-stands : Stands del bud from' hs₀ (as-pointers ps₀) m₀) (room₀ : Room T.the_row (length hs₀)) (room₂ : Room u64 (length m₀)) where
+module _ {M : Type 1} {𝓤 : Ura M} (𝓛 : Logic 𝓤) (at_mem : Memory → SProp 𝓤) (run : Routine → Fun 𝓤) (κ₀ κ₁ κ₂ : Lft) (q₀ q₁ q₂ : Share) (b₀ o₀ : ℕ) (γ₀ : GName) (hs₀ : List Record) (b₁ o₁ : ℕ) (γ₁ : GName) (ps₀ : List ℕ) (b₂ o₂ : ℕ) (γ₂ : GName) (m₀ : List ℕ) (del : Delivery) (gdel : Fits-v del) (bud : ℕ) (gbud : bud < 2 ^ 32) (from' : Pending) (gfrom : Fits from') (first_stands : Stands del bud from' hs₀ (as_pointers ps₀) m₀) (room₀ : Room T.the_row (length hs₀)) (room₂ : Room u64 (length m₀)) where
   open 𝓛 use {H}
 
   abbrev n₀ : ℕ
@@ -338,7 +338,7 @@ module _ {M : Type 1} {𝓤 : Ura M} (𝓛 : Logic 𝓤) (at_mem : Memory → SP
   typed-v d g = ((LL.lawful D.the_type D'.the_laws 𝓛).typed d _ g).0
 
   abbrev Says : Pending → List Record → List ℕ → List ℕ → Type 0
-  Says x hs ps m = Drives del bud from' hs₀ (as-pointers ps₀) m₀ x hs (as-pointers ps) m
+  Says x hs ps m = Drives del bud from' hs₀ (as_pointers ps₀) m₀ x hs (as_pointers ps) m
 
   exits : (x : Pending) (hs : List Record) (ps m : List ℕ) → Fits x → length hs ≡ n₀ → length m ≡ n₂ → Says x hs ps m → ent 𝓤 (⋆ 𝓛 (‵ (recs hs) ∷ ‵ (flft κ₀ q₀) ∷ ‵ (prs ps) ∷ ‵ (flft κ₁ q₁) ∷ ‵ (mems m) ∷ ‵ (flft κ₂ q₂) ∷ [])) (Post (mach x))
   exits x hs ps m g lh lm e =
@@ -362,7 +362,7 @@ module _ {M : Type 1} {𝓤 : Ura M} (𝓛 : Logic 𝓤) (at_mem : Memory → SP
   abbrev to-answer : Lft → Lft → GName → GName → Pending → Search → List ℕ → List ℕ → (Answer 𝓛 at_mem run).Ghost
   to-answer λ₁ λ₂ δ ε x s ps m = (((λ₁, (λ₂, tt)), (full_share, (full_share, tt)), tt, (x, (s, (del, (bud, (x₁ δ ps, (x₂ ε m, tt)))))), (mach x ∷ [], (mach-s s ∷ [], (mach-v del ∷ [], (vint w32 bud ∷ [], (vptr b₁ o₁ ∷ [], (sl₂ ∷ [], tt))))))), tt)
 
-  goes-answer : (λ₁ λ₂ : Lft) (δ ε : GName) (x : Pending) (s : Search) (ps m : List ℕ) → Fits x → Fits-s s → Waits del bud x (as-pointers ps) m × (x.asks ≡ true) × (s.segment ≡ x.segment)
+  goes-answer : (λ₁ λ₂ : Lft) (δ ε : GName) (x : Pending) (s : Search) (ps m : List ℕ) → Fits x → Fits-s s → Waits del bud x (as_pointers ps) m × (x.asks ≡ true) × (s.segment ≡ x.segment)
       → ent 𝓤 (⋆ 𝓛 ((‵ (flft λ₁ full_share) ⊛ ‵ (flft λ₂ full_share) ⊛ ‵ ftrue) ∷ ‵ ((MutRef (named 0) λ₁ (Array u16 24)).own_val (x₁ δ ps) (vptr b₁ o₁ ∷ [])) ∷ ‵ ((MutSlice (named 1) λ₂ u64).own_val (x₂ ε m) (sl₂ ∷ [])) ∷ [])) ((Answer 𝓛 at_mem run).pre (to-answer λ₁ λ₂ δ ε x s ps m))
   goes-answer λ₁ λ₂ δ ε x s ps m g gs needed =
       qed 𝓛 ((‵ (flft λ₁ full_share) ⊛ ‵ (flft λ₂ full_share) ⊛ ‵ ftrue) ∷ ‵ ((MutRef (named 0) λ₁ (Array u16 24)).own_val (x₁ δ ps) (vptr b₁ o₁ ∷ [])) ∷ ‵ ((MutSlice (named 1) λ₂ u64).own_val (x₂ ε m) (sl₂ ∷ [])) ∷ []) ∵ says ! needed $ nothing ! $
@@ -389,19 +389,19 @@ module _ {M : Type 1} {𝓤 : Ura M} (𝓛 : Logic 𝓤) (at_mem : Memory → SP
   Where = State del bud from' hs₀ ps₀ m₀
 
   abbrev Nearer : Where → Where → Type 0
-  Nearer u t = left-to-ask bud u.pending < left-to-ask bud t.pending
+  Nearer u t = left_to_ask bud u.pending < left_to_ask bud t.pending
 
   Nearer-wf : WellFounded Nearer
-  Nearer-wf = InvImage.wf (λ (t : Where). left-to-ask bud t.pending) lt-wf_rel.wf
+  Nearer-wf = InvImage.wf (λ (t : Where). left_to_ask bud t.pending) lt-wf_rel.wf
 
   says-end : (t : Where) → t.pending.asks ≡ false → Says t.pending t.hs t.ps t.m
   says-end t over = record { ended = over; same = t.same; stands = t.stands }
 
   -- what `answer` needs
-  needed : (t : Where) (s : Search) → t.pending.asks ≡ true → s ≡ found t.pending.segment t.hs → Waits del bud t.pending (as-pointers t.ps) t.m × (t.pending.asks ≡ true) × (s.segment ≡ t.pending.segment)
-  needed t s asks es = (t.stands.waits, asks, ap (λ (z : Search). z.segment) es ∙ found-segment t.pending.segment t.hs)
+  needed : (t : Where) (s : Search) → t.pending.asks ≡ true → s ≡ found t.pending.segment t.hs → Waits del bud t.pending (as_pointers t.ps) t.m × (t.pending.asks ≡ true) × (s.segment ≡ t.pending.segment)
+  needed t s asks es = (t.stands.waits, asks, ap (λ (z : Search). z.segment) es ∙ found_segment t.pending.segment t.hs)
 
-  module _ (𝓣 : Tables 𝓤 H) (fm : FmC 𝓤 H 𝓛.laws 𝓣.C) (known_look : Triple 𝓤 (𝓣.C #lookup·look-up) (Look 𝓛 at_mem run)) (known-answer : Triple 𝓤 (𝓣.C #answering·answer) (Answer 𝓛 at_mem run)) (known-replace : Triple 𝓤 (𝓣.C #lookup·replace) (Replace 𝓛 at_mem run)) (known-clear : Triple 𝓤 (𝓣.C #lookup·clear) (Clear 𝓛 at_mem run)) (l₀ l₁ l₂ l₃ l₄ l₅ l₆ l₇ l₈ l₉ l₁₀ l₁₁ l₁₂ l₁₃ l₁₄ l₁₅ l₁₆ l₁₇ l₁₈ l₁₉ l₂₀ l₂₁ : ℕ) where
+  module _ (𝓣 : Tables 𝓤 H) (fm : FmC 𝓤 H 𝓛.laws 𝓣.C) (known_look : Triple 𝓤 (𝓣.C #lookup·look-up) (Look 𝓛 at_mem run)) (known_answer : Triple 𝓤 (𝓣.C #answering·answer) (Answer 𝓛 at_mem run)) (known_replace : Triple 𝓤 (𝓣.C #lookup·replace) (Replace 𝓛 at_mem run)) (known_clear : Triple 𝓤 (𝓣.C #lookup·clear) (Clear 𝓛 at_mem run)) (l₀ l₁ l₂ l₃ l₄ l₅ l₆ l₇ l₈ l₉ l₁₀ l₁₁ l₁₂ l₁₃ l₁₄ l₁₅ l₁₆ l₁₇ l₁₈ l₁₉ l₂₀ l₂₁ : ℕ) where
     abbrev C : Calls 𝓤 H
     C = 𝓣.C
 
@@ -419,35 +419,35 @@ module _ {M : Type 1} {𝓤 : Ura M} (𝓛 : Logic 𝓤) (at_mem : Memory → SP
 
     -- a turn's fourth part: the marks are cleared, or not
     clears : (t : Where) → t.pending.asks ≡ true → (s : Search) (hs' hs'' : List Record) (y : Pending) (ps' m' : List ℕ) → Fits y → s ≡ found t.pending.segment t.hs → hs' ≡ touched (found t.pending.segment t.hs) t.hs → length hs'' ≡ n₀
-        → Answered del bud t.pending s (as-pointers t.ps) t.m y (as-pointers ps') m' → hs'' ≡ replaced-if (not s.hit) (entry y s) hs' → length m' ≡ n₂
+        → Answered del bud t.pending s (as_pointers t.ps) t.m y (as_pointers ps') m' → hs'' ≡ replaced_if (not s.hit) (entry y s) hs' → length m' ≡ n₂
         → Sq 𝓛 (‵ (recs hs'') ∷ ‵ (flft κ₀ q₀) ∷ ‵ (prs ps') ∷ ‵ (flft κ₁ q₁) ∷ ‵ (mems m') ∷ ‵ (flft κ₂ q₂) ∷ ‵ (froom (ty 21) l₂₁ 0) ∷ ‵ (fdies (ty 21) l₂₁) ∷ ‵ (froom (ty 20) l₂₀ 0) ∷ ‵ (fdies (ty 20) l₂₀) ∷ ‵ (froom (ty 19) l₁₉ 0) ∷ ‵ (fdies (ty 19) l₁₉) ∷ ‵ (froom (ty 18) l₁₈ 0) ∷ ‵ (fdies (ty 18) l₁₈) ∷ ‵ (froom (ty 17) l₁₇ 0) ∷ ‵ (fdies (ty 17) l₁₇) ∷ ‵ (froom (ty 16) l₁₆ 0) ∷ ‵ (fdies (ty 16) l₁₆) ∷ ‵ (froom (ty 15) l₁₅ 0) ∷ ‵ (fdies (ty 15) l₁₅) ∷ ‵ (froom (ty 14) l₁₄ 0) ∷ ‵ (fdies (ty 14) l₁₄) ∷ ‵ (froom (ty 13) l₁₃ 0) ∷ ‵ (fdies (ty 13) l₁₃) ∷ ‵ (froom (ty 12) l₁₂ 0) ∷ ‵ (fdies (ty 12) l₁₂) ∷ ‵ (froom (ty 11) l₁₁ 0) ∷ ‵ (fdies (ty 11) l₁₁) ∷ ‵ (froom (ty 10) l₁₀ 0) ∷ ‵ (fdies (ty 10) l₁₀) ∷ ‵ (froom (ty 9) l₉ 0) ∷ ‵ (fdies (ty 9) l₉) ∷ ‵ (froom (ty 8) l₈ 0) ∷ ‵ (fdies (ty 8) l₈) ∷ ‵ (fat full_share pend l₇ 0 (mach y)) ∷ ‵ (fdies pend l₇) ∷ ‵ (froom pend l₆ 0) ∷ ‵ (fdies pend l₆) ∷ ‵ (fat full_share (ty 5) l₅ 0 (vint w32 bud)) ∷ ‵ (fdies (ty 5) l₅) ∷ ‵ (fat full_share deliv l₄ 0 (mach-v del)) ∷ ‵ (fdies deliv l₄) ∷ ‵ (fat full_share (ty 3) l₃ 0 (sl₂)) ∷ ‵ (fdies (ty 3) l₃) ∷ ‵ (fat full_share (ty 2) l₂ 0 (vptr b₁ o₁)) ∷ ‵ (fdies (ty 2) l₂) ∷ ‵ (fat full_share (ty 1) l₁ 0 (sl)) ∷ ‵ (fdies (ty 1) l₁) ∷ ‵ (froom pend l₀ 0) ∷ ‵ (fdies pend l₀) ∷ []) (runs C Λ En (after 11 pieces.turn-1) (any_q (Once t)))
     unfolding after_turn
-    clears t asks s hs' hs'' y ps' m' gy es eh hs-long ey er m-long' =
+    clears t asks s hs' hs'' y ps' m' gy es eh hs-long ey er m_long' =
         assigns ! (of_opd ! (load ! (from ! (fld ! clears-at (stop !))) (clears-read 𝓛 l₇ y _ 34 refl))) (from ! (stop !)) (init ! 30 refl (tt, tt)) $
         branches ! (load ! (from ! (stop !)) (look ! 30 refl))
         (λ yes. assigns ! (addr ! (from ! (fld ! refl (hop ! (look_in ! 46 (sub ! 0 refl (whole !))) (stop !))))) (from ! (stop !)) (init ! 8 refl (tt, tt)) $
         assigns ! (agg ! (and_then ! (load ! (from ! (stop !)) (look ! 8 refl)) (and_then ! (load ! (from ! (fld ! refl (stop !))) (look_in ! 46 (sub ! 1 refl (whole !)))) (no_more !)))) (from ! (stop !)) (init ! 6 refl (tt, (tt, (record { fits = room₀.0 }, tt)))) $
         lft_new ! tt (λ ν. move ! (1 ∷ 2 ∷ []) $
-        use2 𝓛 (later (some (λ (δ : GName). ‵ ((MutSlice (named 0) (ν ∷ []) T.the_row).own_val (x₀ δ hs'') (sl ∷ [])) ⊛ ‵ (LentAgain T.the_row κ₀ (ν ∷ []) q₀ γ₀ b₀ o₀ δ hs'')))) (lends-at T.the_row κ₀ (ν ∷ []) q₀ γ₀ b₀ o₀ 𝓛 (named 0) (named 0) hs'' n₀ hs-long) $ await ! tt $ pick ! (λ δ. split ! $
+        use2 𝓛 (later (some (λ (δ : GName). ‵ ((MutSlice (named 0) (ν ∷ []) T.the_row).own_val (x₀ δ hs'') (sl ∷ [])) ⊛ ‵ (LentAgain T.the_row κ₀ (ν ∷ []) q₀ γ₀ b₀ o₀ δ hs'')))) (lends_at T.the_row κ₀ (ν ∷ []) q₀ γ₀ b₀ o₀ 𝓛 (named 0) (named 0) hs'' n₀ hs-long) $ await ! tt $ pick ! (λ δ. split ! $
         nothing ! $ move ! (3 ∷ 0 ∷ []) $ join ! $ use2 𝓛 (raw ((Clear 𝓛 at_mem run).pre (to_clear (ν ∷ []) δ hs''))) (goes-clear (ν ∷ []) δ hs'') $
-        calls_at_last ! fm (Clear 𝓛 at_mem run) known-clear (to_clear (ν ∷ []) δ hs'') (and_then ! (load ! (from ! (stop !)) (look ! 6 refl)) (no_more !)) (λ v.
+        calls_at_last ! fm (Clear 𝓛 at_mem run) known_clear (to_clear (ν ∷ []) δ hs'') (and_then ! (load ! (from ! (stop !)) (look ! 6 refl)) (no_more !)) (λ v.
         use1 𝓛 (later (some (λ (r : Unit {0}). ((‵ (flft (ν ∷ []) full_share) ⊛ ‵ ftrue) ⊛ ‵ (unit.own_val r (v ∷ []))) ⊛ raw (ensured 𝓛 clear.ended (clear.clauses 𝓛 at_mem run) (ν ∷ [], tt) (x₀ δ hs'', tt) tt r)))) (id⊢ 𝓤 _) $ await ! tt $ pick ! (λ r.
-        split ! $ move ! (1 ∷ []) $ use1 𝓛 (some (λ (zs : Lasts clear.ended (ν ∷ [], tt) (x₀ δ hs'', tt)). ‵ (lasts clear.ended (ν ∷ [], tt) (x₀ δ hs'', tt) zs) ⊛ raw (fact 𝓤 (zs.0 ≡ map without-mark hs'')))) (id⊢ 𝓤 _) $ pick ! (λ zs.
-        split ! $ move ! (1 ∷ []) $ heard ! (zs.0 ≡ map without-mark hs'') (λ e. fsplit ! $ fsplit ! $ move ! (1 ∷ []) $ feq_l ! (λ k. move ! (2 ∷ []) $ split ! $ move ! (1 ∷ []) $ feq_l ! (λ un.
+        split ! $ move ! (1 ∷ []) $ use1 𝓛 (some (λ (zs : Lasts clear.ended (ν ∷ [], tt) (x₀ δ hs'', tt)). ‵ (lasts clear.ended (ν ∷ [], tt) (x₀ δ hs'', tt) zs) ⊛ raw (fact 𝓤 (zs.0 ≡ map without_mark hs'')))) (id⊢ 𝓤 _) $ pick ! (λ zs.
+        split ! $ move ! (1 ∷ []) $ heard ! (zs.0 ≡ map without_mark hs'') (λ e. fsplit ! $ fsplit ! $ move ! (1 ∷ []) $ feq_l ! (λ k. move ! (2 ∷ []) $ split ! $ move ! (1 ∷ []) $ feq_l ! (λ un.
         split ! $ lft_end ! tt $ move ! (0 ∷ 4 ∷ 2 ∷ []) $
         use3 𝓛 (later (‵ ((MutSlice (named 0) κ₀ T.the_row).own_val (x₀ γ₀ zs.0) (sl ∷ [])) ⊛ ‵ (flft κ₀ q₀))) (back_at T.the_row κ₀ (ν ∷ []) q₀ γ₀ b₀ o₀ 𝓛 (named 0) (named 0) hs'' n₀ hs-long δ zs.0 room₀ k) $ await ! tt $ split ! $
         land_last ! (from ! (stop !)) (init ! 12 refl (subst (λ (u : Val). Holds (has_ty ty_unit u) × WT u) (sym (ap only un)) (tt, tt))) $ forget ! 32 refl $ forget ! 12 refl $ forget ! 10 refl $
         forget ! 8 refl $
         keep ! (0 ∷ 1 ∷ 4 ∷ 5 ∷ 6 ∷ 7 ∷ 8 ∷ 9 ∷ 10 ∷ 11 ∷ 12 ∷ 13 ∷ 14 ∷ 15 ∷ 16 ∷ 17 ∷ 18 ∷ 19 ∷ 20 ∷ 21 ∷ 22 ∷ 23 ∷ 24 ∷ 25 ∷ 26 ∷ 27 ∷ 28 ∷ 29 ∷ 30 ∷ 31 ∷ 32 ∷ 33 ∷ 34 ∷ 35 ∷ 36 ∷ 37 ∷ 38 ∷ 39 ∷ 40 ∷ 41 ∷ 42 ∷ 43 ∷ 44 ∷ 45 ∷ 46 ∷ 47 ∷ 48 ∷ 49 ∷ 50 ∷ 51 ∷ []) $
-        again ! Nearer At t (next zs.0 (k ∙ hs-long) (cleared-yes y.clears hs'' zs.0 yes e)) (turned zs.0 (cleared-yes y.clears hs'' zs.0 yes e)).nearer)))))))))
+        again ! Nearer At t (next zs.0 (k ∙ hs-long) (cleared_yes y.clears hs'' zs.0 yes e)) (turned zs.0 (cleared_yes y.clears hs'' zs.0 yes e)).nearer)))))))))
         (λ no. skips ! $ forget ! 30 refl $
         keep ! (0 ∷ 1 ∷ 2 ∷ 3 ∷ 4 ∷ 5 ∷ 6 ∷ 7 ∷ 8 ∷ 9 ∷ 10 ∷ 11 ∷ 12 ∷ 13 ∷ 14 ∷ 15 ∷ 16 ∷ 17 ∷ 18 ∷ 19 ∷ 20 ∷ 21 ∷ 22 ∷ 23 ∷ 24 ∷ 25 ∷ 26 ∷ 27 ∷ 28 ∷ 29 ∷ 30 ∷ 31 ∷ 32 ∷ 33 ∷ 34 ∷ 35 ∷ 36 ∷ 37 ∷ 38 ∷ 39 ∷ 40 ∷ 41 ∷ 42 ∷ 43 ∷ 44 ∷ 45 ∷ 46 ∷ 47 ∷ 48 ∷ 49 ∷ []) $
-        again ! Nearer At t (next hs'' hs-long (cleared-no y.clears hs'' no)) (turned hs'' (cleared-no y.clears hs'' no)).nearer)
+        again ! Nearer At t (next hs'' hs-long (cleared_no y.clears hs'' no)) (turned hs'' (cleared_no y.clears hs'' no)).nearer)
       where
-        turned : (hs''' : List Record) → hs''' ≡ unmarked-if y.clears hs'' → Turned del bud t.pending t.hs (as-pointers t.ps) t.m y hs''' (as-pointers ps') m'
-        turned hs''' e = turned_by del bud t.pending y s t.hs hs' hs'' hs''' (as-pointers t.ps) (as-pointers ps') t.m m' t.stands asks es eh ey er e
+        turned : (hs''' : List Record) → hs''' ≡ unmarked_if y.clears hs'' → Turned del bud t.pending t.hs (as_pointers t.ps) t.m y hs''' (as_pointers ps') m'
+        turned hs''' e = turned_by del bud t.pending y s t.hs hs' hs'' hs''' (as_pointers t.ps) (as_pointers ps') t.m m' t.stands asks es eh ey er e
 
-        next : (hs''' : List Record) → length hs''' ≡ n₀ → hs''' ≡ unmarked-if y.clears hs'' → Where
+        next : (hs''' : List Record) → length hs''' ≡ n₀ → hs''' ≡ unmarked_if y.clears hs'' → Where
         next hs''' l e = record {
           pending = y;
           hs = hs''';
@@ -456,24 +456,24 @@ module _ {M : Type 1} {𝓤 : Ura M} (𝓛 : Logic 𝓤) (at_mem : Memory → SP
           fits = gy;
           stands = (turned hs''' e).stands;
           hs-long = l;
-          m-long = m-long';
+          m-long = m_long';
           same = t.same ∙ (turned hs''' e).same;
         }
 
     -- its third part: a record is overwritten, or not
     replaces : (t : Where) → t.pending.asks ≡ true → (s : Search) (hs' : List Record) (y : Pending) (ps' m' : List ℕ) → Fits-s s → Fits y → s ≡ found t.pending.segment t.hs → hs' ≡ touched (found t.pending.segment t.hs) t.hs → length hs' ≡ n₀
-        → Answered del bud t.pending s (as-pointers t.ps) t.m y (as-pointers ps') m' → length m' ≡ n₂
+        → Answered del bud t.pending s (as_pointers t.ps) t.m y (as_pointers ps') m' → length m' ≡ n₂
         → Sq 𝓛 (‵ (recs hs') ∷ ‵ (flft κ₀ q₀) ∷ ‵ (prs ps') ∷ ‵ (flft κ₁ q₁) ∷ ‵ (mems m') ∷ ‵ (flft κ₂ q₂) ∷ ‵ (froom (ty 21) l₂₁ 0) ∷ ‵ (fdies (ty 21) l₂₁) ∷ ‵ (froom (ty 20) l₂₀ 0) ∷ ‵ (fdies (ty 20) l₂₀) ∷ ‵ (froom (ty 19) l₁₉ 0) ∷ ‵ (fdies (ty 19) l₁₉) ∷ ‵ (froom (ty 18) l₁₈ 0) ∷ ‵ (fdies (ty 18) l₁₈) ∷ ‵ (froom (ty 17) l₁₇ 0) ∷ ‵ (fdies (ty 17) l₁₇) ∷ ‵ (froom (ty 16) l₁₆ 0) ∷ ‵ (fdies (ty 16) l₁₆) ∷ ‵ (froom (ty 15) l₁₅ 0) ∷ ‵ (fdies (ty 15) l₁₅) ∷ ‵ (froom (ty 14) l₁₄ 0) ∷ ‵ (fdies (ty 14) l₁₄) ∷ ‵ (froom (ty 13) l₁₃ 0) ∷ ‵ (fdies (ty 13) l₁₃) ∷ ‵ (froom (ty 12) l₁₂ 0) ∷ ‵ (fdies (ty 12) l₁₂) ∷ ‵ (froom (ty 11) l₁₁ 0) ∷ ‵ (fdies (ty 11) l₁₁) ∷ ‵ (froom (ty 10) l₁₀ 0) ∷ ‵ (fdies (ty 10) l₁₀) ∷ ‵ (froom (ty 9) l₉ 0) ∷ ‵ (fdies (ty 9) l₉) ∷ ‵ (fat full_share (ty 8) l₈ 0 (mach-s s)) ∷ ‵ (fdies (ty 8) l₈) ∷ ‵ (fat full_share pend l₇ 0 (mach y)) ∷ ‵ (fdies pend l₇) ∷ ‵ (froom pend l₆ 0) ∷ ‵ (fdies pend l₆) ∷ ‵ (fat full_share (ty 5) l₅ 0 (vint w32 bud)) ∷ ‵ (fdies (ty 5) l₅) ∷ ‵ (fat full_share deliv l₄ 0 (mach-v del)) ∷ ‵ (fdies deliv l₄) ∷ ‵ (fat full_share (ty 3) l₃ 0 (sl₂)) ∷ ‵ (fdies (ty 3) l₃) ∷ ‵ (fat full_share (ty 2) l₂ 0 (vptr b₁ o₁)) ∷ ‵ (fdies (ty 2) l₂) ∷ ‵ (fat full_share (ty 1) l₁ 0 (sl)) ∷ ‵ (fdies (ty 1) l₁) ∷ ‵ (froom pend l₀ 0) ∷ ‵ (fdies pend l₀) ∷ []) (runs C Λ En (after 9 pieces.turn-1) (any_q (Once t)))
-    replaces t asks s hs' y ps' m' gs gy es eh hs-long ey m-long' =
+    replaces t asks s hs' y ps' m' gs gy es eh hs-long ey m_long' =
         assigns ! (un ! (load ! (from ! (fld ! refl (stop !))) (look_in ! 32 (sub ! 3 refl (whole !)))) tt) (from ! (stop !)) (init ! 30 refl (tt, tt)) $
         first ! $ branches ! (load ! (from ! (stop !)) (look ! 30 refl))
         (λ miss. assigns ! (addr ! (from ! (fld ! refl (hop ! (look_in ! 46 (sub ! 0 refl (whole !))) (stop !))))) (from ! (stop !)) (init ! 16 refl (tt, tt)) $
         assigns ! (agg ! (and_then ! (load ! (from ! (stop !)) (look ! 16 refl)) (and_then ! (load ! (from ! (fld ! refl (stop !))) (look_in ! 46 (sub ! 1 refl (whole !)))) (no_more !)))) (from ! (stop !)) (init ! 14 refl (tt, (tt, (record { fits = room₀.0 }, tt)))) $
         assigns ! (agg ! (and_then ! (load ! (from ! (fld ! word_at (stop !))) (word_read 𝓛 l₇ y _ 34 refl)) (and_then ! (load ! (from ! (fld ! refl (stop !))) (look_in ! 32 (sub ! 1 refl (whole !)))) (no_more !)))) (from ! (stop !)) (init ! 12 refl (typed-e (entry y s) (entry-fits y s gy gs))) $
         lft_new ! tt (λ ν. move ! (1 ∷ 2 ∷ []) $
-        use2 𝓛 (later (some (λ (δ : GName). ‵ ((MutSlice (named 0) (ν ∷ []) T.the_row).own_val (x₀ δ hs') (sl ∷ [])) ⊛ ‵ (LentAgain T.the_row κ₀ (ν ∷ []) q₀ γ₀ b₀ o₀ δ hs')))) (lends-at T.the_row κ₀ (ν ∷ []) q₀ γ₀ b₀ o₀ 𝓛 (named 0) (named 0) hs' n₀ hs-long) $ await ! tt $ pick ! (λ δ. split ! $
+        use2 𝓛 (later (some (λ (δ : GName). ‵ ((MutSlice (named 0) (ν ∷ []) T.the_row).own_val (x₀ δ hs') (sl ∷ [])) ⊛ ‵ (LentAgain T.the_row κ₀ (ν ∷ []) q₀ γ₀ b₀ o₀ δ hs')))) (lends_at T.the_row κ₀ (ν ∷ []) q₀ γ₀ b₀ o₀ 𝓛 (named 0) (named 0) hs' n₀ hs-long) $ await ! tt $ pick ! (λ δ. split ! $
         nothing ! $ move ! (3 ∷ 0 ∷ []) $ join ! $ use2 𝓛 (raw ((Replace 𝓛 at_mem run).pre (to-replace (ν ∷ []) δ hs' (entry y s)))) (goes-replace (ν ∷ []) δ hs' (entry y s) (entry-fits y s gy gs)) $
-        calls_at_last ! fm (Replace 𝓛 at_mem run) known-replace (to-replace (ν ∷ []) δ hs' (entry y s)) (and_then ! (load ! (from ! (stop !)) (look ! 14 refl)) (and_then ! (load ! (from ! (stop !)) (look ! 12 refl)) (no_more !))) (λ v.
+        calls_at_last ! fm (Replace 𝓛 at_mem run) known_replace (to-replace (ν ∷ []) δ hs' (entry y s)) (and_then ! (load ! (from ! (stop !)) (look ! 14 refl)) (and_then ! (load ! (from ! (stop !)) (look ! 12 refl)) (no_more !))) (λ v.
         use1 𝓛 (later (some (λ (r : Unit {0}). ((‵ (flft (ν ∷ []) full_share) ⊛ ‵ ftrue) ⊛ ‵ (unit.own_val r (v ∷ []))) ⊛ raw (ensured 𝓛 replace.ended (replace.clauses 𝓛 at_mem run) (ν ∷ [], tt) (x₀ δ hs', (entry y s, tt)) tt r)))) (id⊢ 𝓤 _) $ await ! tt $ pick ! (λ r.
         split ! $ move ! (1 ∷ []) $ use1 𝓛 (some (λ (zs : Lasts replace.ended (ν ∷ [], tt) (x₀ δ hs', (entry y s, tt))). ‵ (lasts replace.ended (ν ∷ [], tt) (x₀ δ hs', (entry y s, tt)) zs) ⊛ raw (fact 𝓤 (zs.0 ≡ map (overwritten (entry y s)) hs')))) (id⊢ 𝓤 _) $ pick ! (λ zs.
         split ! $ move ! (1 ∷ []) $ heard ! (zs.0 ≡ map (overwritten (entry y s)) hs') (λ e. fsplit ! $ fsplit ! $ move ! (1 ∷ []) $ feq_l ! (λ k. move ! (2 ∷ []) $ split ! $ move ! (1 ∷ []) $ feq_l ! (λ un.
@@ -482,10 +482,10 @@ module _ {M : Type 1} {𝓤 : Ura M} (𝓛 : Logic 𝓤) (at_mem : Memory → SP
         land_last ! (from ! (stop !)) (init ! 20 refl (subst (λ (u : Val). Holds (has_ty ty_unit u) × WT u) (sym (ap only un)) (tt, tt))) $ forget ! 34 refl $ forget ! 32 refl $ forget ! 20 refl $
         forget ! 18 refl $ forget ! 16 refl $ forget ! 14 refl $
         keep ! (0 ∷ 1 ∷ 4 ∷ 5 ∷ 6 ∷ 7 ∷ 8 ∷ 9 ∷ 10 ∷ 11 ∷ 12 ∷ 13 ∷ 14 ∷ 15 ∷ 16 ∷ 17 ∷ 18 ∷ 19 ∷ 20 ∷ 21 ∷ 22 ∷ 23 ∷ 24 ∷ 25 ∷ 26 ∷ 27 ∷ 28 ∷ 29 ∷ 30 ∷ 31 ∷ 32 ∷ 33 ∷ 34 ∷ 35 ∷ 36 ∷ 37 ∷ 38 ∷ 39 ∷ 40 ∷ 41 ∷ 42 ∷ 43 ∷ 44 ∷ 45 ∷ 46 ∷ 47 ∷ 48 ∷ 49 ∷ 50 ∷ 51 ∷ []) $
-        exec ! C Λ En (after 11 pieces.turn-1) (any_q (Once t)) $ clears t asks s hs' zs.0 y ps' m' gy es eh (k ∙ hs-long) ey (replaced-yes _ (entry y s) hs' zs.0 miss e) m-long')))))))))
+        exec ! C Λ En (after 11 pieces.turn-1) (any_q (Once t)) $ clears t asks s hs' zs.0 y ps' m' gy es eh (k ∙ hs-long) ey (replaced_yes _ (entry y s) hs' zs.0 miss e) m_long')))))))))
         (λ hit. skips ! $ forget ! 32 refl $ forget ! 30 refl $
         keep ! (0 ∷ 1 ∷ 2 ∷ 3 ∷ 4 ∷ 5 ∷ 6 ∷ 7 ∷ 8 ∷ 9 ∷ 10 ∷ 11 ∷ 12 ∷ 13 ∷ 14 ∷ 15 ∷ 16 ∷ 17 ∷ 18 ∷ 19 ∷ 20 ∷ 21 ∷ 22 ∷ 23 ∷ 24 ∷ 25 ∷ 26 ∷ 27 ∷ 28 ∷ 29 ∷ 30 ∷ 31 ∷ 32 ∷ 33 ∷ 34 ∷ 35 ∷ 36 ∷ 37 ∷ 38 ∷ 39 ∷ 40 ∷ 41 ∷ 42 ∷ 43 ∷ 44 ∷ 45 ∷ 46 ∷ 47 ∷ 48 ∷ 49 ∷ []) $
-        exec ! C Λ En (after 11 pieces.turn-1) (any_q (Once t)) $ clears t asks s hs' hs' y ps' m' gy es eh hs-long ey (replaced-no _ (entry y s) hs' hit) m-long')
+        exec ! C Λ En (after 11 pieces.turn-1) (any_q (Once t)) $ clears t asks s hs' hs' y ps' m' gy es eh hs-long ey (replaced_no _ (entry y s) hs' hit) m_long')
 
     -- its second part: the run goes on with the record
     answers : (t : Where) → t.pending.asks ≡ true → (s : Search) (hs' : List Record) → Fits-s s → s ≡ found t.pending.segment t.hs → hs' ≡ touched (found t.pending.segment t.hs) t.hs → length hs' ≡ n₀
@@ -495,25 +495,25 @@ module _ {M : Type 1} {𝓤 : Ura M} (𝓛 : Logic 𝓤) (at_mem : Memory → SP
         assigns ! (addr ! (from ! (fld ! refl (hop ! (look_in ! 42 (sub ! 0 refl (whole !))) (stop !))))) (from ! (stop !)) (init ! 22 refl (tt, tt)) $
         assigns ! (agg ! (and_then ! (load ! (from ! (stop !)) (look ! 22 refl)) (and_then ! (load ! (from ! (fld ! refl (stop !))) (look_in ! 42 (sub ! 1 refl (whole !)))) (no_more !)))) (from ! (stop !)) (init ! 20 refl (tt, (tt, (record { fits = room₂.0 }, tt)))) $
         lft_new ! tt (λ ν. move ! (3 ∷ 4 ∷ []) $
-        use2 𝓛 (later (some (λ (δ : GName). ‵ ((MutRef (named 0) (ν ∷ []) (Array u16 24)).own_val (x₁ δ t.ps) (vptr b₁ o₁ ∷ [])) ⊛ ‵ (LentRef (Array u16 24) κ₁ (ν ∷ []) q₁ γ₁ b₁ o₁ δ t.ps)))) (lends-ref-again 𝓛 (Array u16 24) (named 1) κ₁ (ν ∷ []) q₁ γ₁ b₁ o₁ (named 0) t.ps) $ await ! tt $ pick ! (λ δ. split ! $
+        use2 𝓛 (later (some (λ (δ : GName). ‵ ((MutRef (named 0) (ν ∷ []) (Array u16 24)).own_val (x₁ δ t.ps) (vptr b₁ o₁ ∷ [])) ⊛ ‵ (LentRef (Array u16 24) κ₁ (ν ∷ []) q₁ γ₁ b₁ o₁ δ t.ps)))) (lends_ref_again 𝓛 (Array u16 24) (named 1) κ₁ (ν ∷ []) q₁ γ₁ b₁ o₁ (named 0) t.ps) $ await ! tt $ pick ! (λ δ. split ! $
         lft_new ! tt (λ μ. move ! (6 ∷ 7 ∷ []) $
-        use2 𝓛 (later (some (λ (ε : GName). ‵ ((MutSlice (named 1) (μ ∷ []) u64).own_val (x₂ ε t.m) (sl₂ ∷ [])) ⊛ ‵ (LentAgain u64 κ₂ (μ ∷ []) q₂ γ₂ b₂ o₂ ε t.m)))) (lends-at u64 κ₂ (μ ∷ []) q₂ γ₂ b₂ o₂ 𝓛 (named 2) (named 1) t.m n₂ t.m-long) $ await ! tt $ pick ! (λ ε. split ! $
+        use2 𝓛 (later (some (λ (ε : GName). ‵ ((MutSlice (named 1) (μ ∷ []) u64).own_val (x₂ ε t.m) (sl₂ ∷ [])) ⊛ ‵ (LentAgain u64 κ₂ (μ ∷ []) q₂ γ₂ b₂ o₂ ε t.m)))) (lends_at u64 κ₂ (μ ∷ []) q₂ γ₂ b₂ o₂ 𝓛 (named 2) (named 1) t.m n₂ t.m_long) $ await ! tt $ pick ! (λ ε. split ! $
         nothing ! $ move ! (3 ∷ 0 ∷ []) $ join ! $ move ! (5 ∷ 0 ∷ []) $ join ! $ move ! (0 ∷ 3 ∷ 1 ∷ []) $
         use3 𝓛 (raw ((Answer 𝓛 at_mem run).pre (to-answer (ν ∷ []) (μ ∷ []) δ ε t.pending s t.ps t.m))) (goes-answer (ν ∷ []) (μ ∷ []) δ ε t.pending s t.ps t.m t.fits gs (needed t s asks es)) $
-        calls_at ! fm (Answer 𝓛 at_mem run) known-answer (to-answer (ν ∷ []) (μ ∷ []) δ ε t.pending s t.ps t.m) (and_then ! (load ! (from ! (stop !)) (look ! 33 refl)) (and_then ! (load ! (from ! (stop !)) (look ! 31 refl)) (and_then ! (load ! (from ! (stop !)) (look ! 39 refl)) (and_then ! (load ! (from ! (stop !)) (look ! 37 refl)) (and_then ! (load ! (from ! (stop !)) (look ! 23 refl)) (and_then ! (load ! (from ! (stop !)) (look ! 19 refl)) (no_more !))))))) (λ v.
+        calls_at ! fm (Answer 𝓛 at_mem run) known_answer (to-answer (ν ∷ []) (μ ∷ []) δ ε t.pending s t.ps t.m) (and_then ! (load ! (from ! (stop !)) (look ! 33 refl)) (and_then ! (load ! (from ! (stop !)) (look ! 31 refl)) (and_then ! (load ! (from ! (stop !)) (look ! 39 refl)) (and_then ! (load ! (from ! (stop !)) (look ! 37 refl)) (and_then ! (load ! (from ! (stop !)) (look ! 23 refl)) (and_then ! (load ! (from ! (stop !)) (look ! 19 refl)) (no_more !))))))) (λ v.
         use1 𝓛 (later (some (λ (y : Pending). ((‵ (flft (ν ∷ []) full_share) ⊛ ‵ (flft (μ ∷ []) full_share) ⊛ ‵ ftrue) ⊛ ‵ ((P.the_row).own_val y (v ∷ []))) ⊛ raw (ensured 𝓛 answer.ended (answer.clauses 𝓛 at_mem run) (ν ∷ [], (μ ∷ [], tt)) (t.pending, (s, (del, (bud, (x₁ δ t.ps, (x₂ ε t.m, tt)))))) tt y)))) (id⊢ 𝓤 _) $ await ! tt $ pick ! (λ y.
-        split ! $ move ! (1 ∷ []) $ use1 𝓛 (some (λ (zs : Lasts answer.ended (ν ∷ [], (μ ∷ [], tt)) (t.pending, (s, (del, (bud, (x₁ δ t.ps, (x₂ ε t.m, tt))))))). ‵ (lasts answer.ended (ν ∷ [], (μ ∷ [], tt)) (t.pending, (s, (del, (bud, (x₁ δ t.ps, (x₂ ε t.m, tt)))))) zs) ⊛ raw (fact 𝓤 (Answered del bud t.pending s (as-pointers t.ps) t.m y (as-pointers zs.1.1.1.1.0) zs.1.1.1.1.1.0)))) (id⊢ 𝓤 _) $ pick ! (λ zs.
-        split ! $ move ! (1 ∷ []) $ heard ! (Answered del bud t.pending s (as-pointers t.ps) t.m y (as-pointers zs.1.1.1.1.0) zs.1.1.1.1.1.0) (λ e. fsplit ! $ move ! (1 ∷ []) $
+        split ! $ move ! (1 ∷ []) $ use1 𝓛 (some (λ (zs : Lasts answer.ended (ν ∷ [], (μ ∷ [], tt)) (t.pending, (s, (del, (bud, (x₁ δ t.ps, (x₂ ε t.m, tt))))))). ‵ (lasts answer.ended (ν ∷ [], (μ ∷ [], tt)) (t.pending, (s, (del, (bud, (x₁ δ t.ps, (x₂ ε t.m, tt)))))) zs) ⊛ raw (fact 𝓤 (Answered del bud t.pending s (as_pointers t.ps) t.m y (as_pointers zs.1.1.1.1.0) zs.1.1.1.1.1.0)))) (id⊢ 𝓤 _) $ pick ! (λ zs.
+        split ! $ move ! (1 ∷ []) $ heard ! (Answered del bud t.pending s (as_pointers t.ps) t.m y (as_pointers zs.1.1.1.1.0) zs.1.1.1.1.1.0) (λ e. fsplit ! $ move ! (1 ∷ []) $
         fsplit ! $ move ! (1 ∷ []) $ fsplit ! $ move ! (1 ∷ []) $ fsplit ! $ move ! (1 ∷ []) $ fsplit ! $ move ! (1 ∷ []) $ fsplit ! $ fsplit ! $ move ! (1 ∷ []) $ feq_l ! (λ k. move ! (7 ∷ []) $ split ! $
         move ! (1 ∷ []) $ peeks ! P.the_row (Is P.the_row) (shows 𝓛 P.the_row) y (v ∷ []) (λ is.
         land ! (from ! (stop !)) (store ! 41 refl (lands y v is)) $ rewrite ! 41 (λ (u : Val). ‵ (fat full_share pend l₇ 0 u)) (tells y v is) refl $ move ! (1 ∷ []) $ split ! $ lft_end ! tt $ move ! (1 ∷ []) $
         split ! $ lft_end ! tt $ move ! (2 ∷ 12 ∷ 6 ∷ []) $
-        use3 𝓛 (later (‵ (prs zs.1.1.1.1.0) ⊛ ‵ (flft κ₁ q₁))) (comes-ref-back 𝓛 (Array u16 24) (named 1) κ₁ (ν ∷ []) q₁ γ₁ b₁ o₁ δ t.ps zs.1.1.1.1.0) $ await ! tt $ split ! $
+        use3 𝓛 (later (‵ (prs zs.1.1.1.1.0) ⊛ ‵ (flft κ₁ q₁))) (comes_ref_back 𝓛 (Array u16 24) (named 1) κ₁ (ν ∷ []) q₁ γ₁ b₁ o₁ δ t.ps zs.1.1.1.1.0) $ await ! tt $ split ! $
         move ! (2 ∷ 11 ∷ 5 ∷ []) $
-        use3 𝓛 (later (‵ ((MutSlice (named 2) κ₂ u64).own_val (x₂ γ₂ zs.1.1.1.1.1.0) (sl₂ ∷ [])) ⊛ ‵ (flft κ₂ q₂))) (back_at u64 κ₂ (μ ∷ []) q₂ γ₂ b₂ o₂ 𝓛 (named 2) (named 1) t.m n₂ t.m-long ε zs.1.1.1.1.1.0 room₂ k) $ await ! tt $ split ! $
+        use3 𝓛 (later (‵ ((MutSlice (named 2) κ₂ u64).own_val (x₂ γ₂ zs.1.1.1.1.1.0) (sl₂ ∷ [])) ⊛ ‵ (flft κ₂ q₂))) (back_at u64 κ₂ (μ ∷ []) q₂ γ₂ b₂ o₂ 𝓛 (named 2) (named 1) t.m n₂ t.m_long ε zs.1.1.1.1.1.0 room₂ k) $ await ! tt $ split ! $
         forget ! 31 refl $ forget ! 29 refl $ forget ! 27 refl $
         keep ! (11 ∷ 12 ∷ 2 ∷ 3 ∷ 0 ∷ 1 ∷ 13 ∷ 14 ∷ 15 ∷ 16 ∷ 17 ∷ 18 ∷ 19 ∷ 20 ∷ 21 ∷ 22 ∷ 23 ∷ 24 ∷ 25 ∷ 26 ∷ 27 ∷ 28 ∷ 29 ∷ 30 ∷ 31 ∷ 32 ∷ 33 ∷ 34 ∷ 35 ∷ 36 ∷ 37 ∷ 38 ∷ 39 ∷ 40 ∷ 41 ∷ 42 ∷ 43 ∷ 44 ∷ 45 ∷ 46 ∷ 47 ∷ 48 ∷ 49 ∷ 50 ∷ 51 ∷ 52 ∷ 53 ∷ 54 ∷ 55 ∷ 56 ∷ []) $
-        replaces t asks s hs' y zs.1.1.1.1.0 zs.1.1.1.1.1.0 gs (told y v is) es eh hs-long e (k ∙ t.m-long)))))))))))
+        replaces t asks s hs' y zs.1.1.1.1.0 zs.1.1.1.1.1.0 gs (told y v is) es eh hs-long e (k ∙ t.m_long)))))))))))
 
     turns : (t : Where) → Sq 𝓛 (At t) (runs C Λ En pieces.turn-1 (any_q (Once t)))
     unfolding after_turn
@@ -524,7 +524,7 @@ module _ {M : Type 1} {𝓤 : Ura M} (𝓛 : Logic 𝓤) (at_mem : Memory → SP
         assigns ! (addr ! (from ! (fld ! refl (hop ! (look_in ! 46 (sub ! 0 refl (whole !))) (stop !))))) (from ! (stop !)) (init ! 28 refl (tt, tt)) $
         assigns ! (agg ! (and_then ! (load ! (from ! (stop !)) (look ! 28 refl)) (and_then ! (load ! (from ! (fld ! refl (stop !))) (look_in ! 46 (sub ! 1 refl (whole !)))) (no_more !)))) (from ! (stop !)) (init ! 26 refl (tt, (tt, (record { fits = room₀.0 }, tt)))) $
         lft_new ! tt (λ ν. move ! (1 ∷ 2 ∷ []) $
-        use2 𝓛 (later (some (λ (δ : GName). ‵ ((MutSlice (named 0) (ν ∷ []) T.the_row).own_val (x₀ δ t.hs) (sl ∷ [])) ⊛ ‵ (LentAgain T.the_row κ₀ (ν ∷ []) q₀ γ₀ b₀ o₀ δ t.hs)))) (lends-at T.the_row κ₀ (ν ∷ []) q₀ γ₀ b₀ o₀ 𝓛 (named 0) (named 0) t.hs n₀ t.hs-long) $ await ! tt $ pick ! (λ δ. split ! $
+        use2 𝓛 (later (some (λ (δ : GName). ‵ ((MutSlice (named 0) (ν ∷ []) T.the_row).own_val (x₀ δ t.hs) (sl ∷ [])) ⊛ ‵ (LentAgain T.the_row κ₀ (ν ∷ []) q₀ γ₀ b₀ o₀ δ t.hs)))) (lends_at T.the_row κ₀ (ν ∷ []) q₀ γ₀ b₀ o₀ 𝓛 (named 0) (named 0) t.hs n₀ t.hs_long) $ await ! tt $ pick ! (λ δ. split ! $
         nothing ! $ move ! (3 ∷ 0 ∷ []) $ join ! $ use2 𝓛 (raw ((Look 𝓛 at_mem run).pre (to-look (ν ∷ []) δ t.pending t.hs))) (goes-look (ν ∷ []) δ t.pending t.hs t.fits) $
         calls_at ! fm (Look 𝓛 at_mem run) known_look (to-look (ν ∷ []) δ t.pending t.hs) (and_then ! (load ! (from ! (stop !)) (look ! 26 refl)) (and_then ! (load ! (from ! (fld ! segment-at (stop !))) (segment-read 𝓛 l₇ t.pending _ 34 refl)) (no_more !))) (λ v.
         use1 𝓛 (later (some (λ (s : Search). ((‵ (flft (ν ∷ []) full_share) ⊛ ‵ ftrue) ⊛ ‵ ((S.the_row).own_val s (v ∷ []))) ⊛ raw (ensured 𝓛 look.ended (look.clauses 𝓛 at_mem run) (ν ∷ [], tt) (x₀ δ t.hs, (t.pending.segment, tt)) tt s)))) (id⊢ 𝓤 _) $ await ! tt $ pick ! (λ s.
@@ -533,25 +533,25 @@ module _ {M : Type 1} {𝓤 : Ura M} (𝓛 : Logic 𝓤) (at_mem : Memory → SP
         fsplit ! $ fsplit ! $ move ! (1 ∷ []) $ feq_l ! (λ k. move ! (2 ∷ []) $ split ! $ move ! (1 ∷ []) $ peeks ! S.the_row (Is S.the_row) (shows 𝓛 S.the_row) s (v ∷ []) (λ is.
         land ! (from ! (stop !)) (init ! 35 refl (lands-s s v is)) $ rewrite ! 35 (λ (u : Val). ‵ (fat full_share (ty 8) l₈ 0 u)) (tells-s s v is) refl $ move ! (1 ∷ []) $ split ! $ lft_end ! tt $
         move ! (0 ∷ 5 ∷ 3 ∷ []) $
-        use3 𝓛 (later (‵ ((MutSlice (named 0) κ₀ T.the_row).own_val (x₀ γ₀ zs.0) (sl ∷ [])) ⊛ ‵ (flft κ₀ q₀))) (back_at T.the_row κ₀ (ν ∷ []) q₀ γ₀ b₀ o₀ 𝓛 (named 0) (named 0) t.hs n₀ t.hs-long δ zs.0 room₀ k) $ await ! tt $ split ! $
+        use3 𝓛 (later (‵ ((MutSlice (named 0) κ₀ T.the_row).own_val (x₀ γ₀ zs.0) (sl ∷ [])) ⊛ ‵ (flft κ₀ q₀))) (back_at T.the_row κ₀ (ν ∷ []) q₀ γ₀ b₀ o₀ 𝓛 (named 0) (named 0) t.hs n₀ t.hs_long δ zs.0 room₀ k) $ await ! tt $ split ! $
         forget ! 33 refl $ forget ! 31 refl $ forget ! 29 refl $
         keep ! (0 ∷ 1 ∷ 5 ∷ 6 ∷ 7 ∷ 8 ∷ 9 ∷ 10 ∷ 11 ∷ 12 ∷ 13 ∷ 14 ∷ 15 ∷ 16 ∷ 17 ∷ 18 ∷ 19 ∷ 20 ∷ 21 ∷ 22 ∷ 23 ∷ 24 ∷ 25 ∷ 26 ∷ 27 ∷ 28 ∷ 29 ∷ 30 ∷ 31 ∷ 32 ∷ 33 ∷ 34 ∷ 35 ∷ 36 ∷ 37 ∷ 38 ∷ 39 ∷ 40 ∷ 41 ∷ 42 ∷ 43 ∷ 44 ∷ 45 ∷ 46 ∷ 47 ∷ 48 ∷ 49 ∷ 50 ∷ 51 ∷ 52 ∷ []) $
-        answers t (is_true _ asks) s zs.0 (told-s s v is) e.0 e.1 (k ∙ t.hs-long))))))))))
+        answers t (is_true _ asks) s zs.0 (told-s s v is) e.0 e.1 (k ∙ t.hs_long))))))))))
         (λ over. jumps ! $ exec ! C Λ En pieces.t-3 (at_ret En Post) $ assigns ! (of_opd ! (load ! (from ! (stop !)) (look ! 34 refl))) (from ! (stop !)) (init ! 48 refl (typed t.pending t.fits)) $
         returns ! (look ! 48 refl) $ forget ! 48 refl $ forget ! 46 refl $ forget ! 44 refl $ forget ! 42 refl $ forget ! 40 refl $ forget ! 38 refl $ forget ! 34 refl $ forget ! 30 refl $
         move ! (48 ∷ 49 ∷ []) $ free1 ! $ move ! (46 ∷ 47 ∷ []) $ free1 ! $ move ! (44 ∷ 45 ∷ []) $ free1 ! $ move ! (42 ∷ 43 ∷ []) $ free1 ! $ move ! (40 ∷ 41 ∷ []) $ free1 ! $ move ! (38 ∷ 39 ∷ []) $
         free1 ! $ move ! (36 ∷ 37 ∷ []) $ free1 ! $ move ! (34 ∷ 35 ∷ []) $ free1 ! $ move ! (32 ∷ 33 ∷ []) $ free1 ! $ move ! (30 ∷ 31 ∷ []) $ free1 ! $ move ! (28 ∷ 29 ∷ []) $ free1 ! $
         move ! (26 ∷ 27 ∷ []) $ free1 ! $ move ! (24 ∷ 25 ∷ []) $ free1 ! $ move ! (22 ∷ 23 ∷ []) $ free1 ! $ move ! (20 ∷ 21 ∷ []) $ free1 ! $ move ! (18 ∷ 19 ∷ []) $ free1 ! $ move ! (16 ∷ 17 ∷ []) $
         free1 ! $ move ! (14 ∷ 15 ∷ []) $ free1 ! $ move ! (12 ∷ 13 ∷ []) $ free1 ! $ move ! (10 ∷ 11 ∷ []) $ free1 ! $ move ! (8 ∷ 9 ∷ []) $ free1 ! $ move ! (6 ∷ 7 ∷ []) $ free1 ! $ free0 ! $
-        keep ! (0 ∷ 1 ∷ 2 ∷ 3 ∷ 4 ∷ 5 ∷ []) $ by ! (exits t.pending t.hs t.ps t.m t.fits t.hs-long t.m-long (says-end t (is_false _ over))))
+        keep ! (0 ∷ 1 ∷ 2 ∷ 3 ∷ 4 ∷ 5 ∷ []) $ by ! (exits t.pending t.hs t.ps t.m t.fits t.hs_long t.m_long (says-end t (is_false _ over))))
 
   abbrev started : Where
-  started = record { pending = from'; hs = hs₀; ps = ps₀; m = m₀; fits = gfrom; stands = first-stands; hs-long = refl; m-long = refl; same = refl }
+  started = record { pending = from'; hs = hs₀; ps = ps₀; m = m₀; fits = gfrom; stands = first_stands; hs-long = refl; m-long = refl; same = refl }
 
   walk : (𝓣 : Tables 𝓤 H) → FmC 𝓤 H 𝓛.laws 𝓣.C → Triple 𝓤 (𝓣.C #lookup·look-up) (Look 𝓛 at_mem run) → Triple 𝓤 (𝓣.C #answering·answer) (Answer 𝓛 at_mem run) → Triple 𝓤 (𝓣.C #lookup·replace) (Replace 𝓛 at_mem run) → Triple 𝓤 (𝓣.C #lookup·clear) (Clear 𝓛 at_mem run)
       → ent 𝓤 (on_entry 𝓛 f.signature (κ₀, (κ₁, (κ₂, tt))) (q₀, (q₁, (q₂, tt))) a vals) (WpFn 𝓤 H 𝓣.C 𝓣.Λ code.function (sl ∷ vptr b₁ o₁ ∷ sl₂ ∷ mach-v del ∷ vint w32 bud ∷ mach from' ∷ []) Post)
   unfolding pend deliv
-  walk 𝓣 fm known_look known-answer known-replace known-clear =
+  walk 𝓣 fm known_look known_answer known_replace known_clear =
       qed 𝓛 ((‵ (flft κ₀ q₀) ⊛ ‵ (flft κ₁ q₁) ⊛ ‵ (flft κ₂ q₂) ⊛ ‵ ftrue) ∷ ‵ (owns (MutSlice (named 0) κ₀ T.the_row ∷ MutRef (named 1) κ₁ (Array u16 24) ∷ MutSlice (named 2) κ₂ u64 ∷ D.the_row ∷ u32 ∷ P.the_row ∷ []) a vals) ∷ []) ∵ enter ! 𝓣.C 𝓣.Λ code.function (sl ∷ vptr b₁ o₁ ∷ sl₂ ∷ mach-v del ∷ vint w32 bud ∷ mach from' ∷ []) _ $
       alloc1 ! (λ l₀. alloc1 ! (λ l₁. alloc1 ! (λ l₂. alloc1 ! (λ l₃. alloc1 ! (λ l₄. alloc1 ! (λ l₅. alloc1 ! (λ l₆. alloc1 ! (λ l₇. alloc1 ! (λ l₈. alloc1 ! (λ l₉. alloc1 ! (λ l₁₀. alloc1 ! (λ l₁₁.
       alloc1 ! (λ l₁₂. alloc1 ! (λ l₁₃. alloc1 ! (λ l₁₄. alloc1 ! (λ l₁₅. alloc1 ! (λ l₁₆. alloc1 ! (λ l₁₇. alloc1 ! (λ l₁₈. alloc1 ! (λ l₁₉. alloc1 ! (λ l₂₀. alloc1 ! (λ l₂₁. alloc0 ! $ params1 ! $
@@ -560,16 +560,16 @@ module _ {M : Type 1} {𝓤 : Ura M} (𝓛 : Logic 𝓤) (at_mem : Memory → SP
       assigns ! (of_opd ! (load ! (from ! (stop !)) (look ! 30 refl))) (from ! (stop !)) (init ! 28 refl (typed from' gfrom)) $ forget ! 30 refl $ move ! (45 ∷ []) $ fsplit ! $ move ! (1 ∷ []) $ fsplit ! $
       move ! (1 ∷ []) $ fsplit ! $ move ! (48 ∷ []) $ split ! $ move ! (1 ∷ []) $ split ! $ move ! (1 ∷ []) $ split ! $
       keep ! (7 ∷ 3 ∷ 6 ∷ 2 ∷ 4 ∷ 0 ∷ 8 ∷ 9 ∷ 10 ∷ 11 ∷ 12 ∷ 13 ∷ 14 ∷ 15 ∷ 16 ∷ 17 ∷ 18 ∷ 19 ∷ 20 ∷ 21 ∷ 22 ∷ 23 ∷ 24 ∷ 25 ∷ 26 ∷ 27 ∷ 28 ∷ 29 ∷ 30 ∷ 31 ∷ 32 ∷ 33 ∷ 34 ∷ 35 ∷ 36 ∷ 37 ∷ 38 ∷ 39 ∷ 40 ∷ 41 ∷ 42 ∷ 43 ∷ 44 ∷ 45 ∷ 46 ∷ 47 ∷ 48 ∷ 49 ∷ 50 ∷ 51 ∷ []) $
-      first ! $ blocks ! $ loops ! 𝓣 Nearer Nearer-wf (At 𝓣 fm known_look known-answer known-replace known-clear l₀ l₁ l₂ l₃ l₄ l₅ l₆ l₇ l₈ l₉ l₁₀ l₁₁ l₁₂ l₁₃ l₁₄ l₁₅ l₁₆ l₁₇ l₁₈ l₁₉ l₂₀ l₂₁) (turns 𝓣 fm known_look known-answer known-replace known-clear l₀ l₁ l₂ l₃ l₄ l₅ l₆ l₇ l₈ l₉ l₁₀ l₁₁ l₁₂ l₁₃ l₁₄ l₁₅ l₁₆ l₁₇ l₁₈ l₁₉ l₂₀ l₂₁) started))))))))))))))))))))))
+      first ! $ blocks ! $ loops ! 𝓣 Nearer Nearer-wf (At 𝓣 fm known_look known_answer known_replace known_clear l₀ l₁ l₂ l₃ l₄ l₅ l₆ l₇ l₈ l₉ l₁₀ l₁₁ l₁₂ l₁₃ l₁₄ l₁₅ l₁₆ l₁₇ l₁₈ l₁₉ l₂₀ l₂₁) (turns 𝓣 fm known_look known_answer known_replace known_clear l₀ l₁ l₂ l₃ l₄ l₅ l₆ l₇ l₈ l₉ l₁₀ l₁₁ l₁₂ l₁₃ l₁₄ l₁₅ l₁₆ l₁₇ l₁₈ l₁₉ l₂₀ l₂₁) started))))))))))))))))))))))
 
-module _ {M : Type 1} {𝓤 : Ura M} (𝓛 : Logic 𝓤) (at_mem : Memory → SProp 𝓤) (run : Routine → Fun 𝓤) (𝓣 : Tables 𝓤 𝓛.H) (known_look : Triple 𝓤 (𝓣.C #lookup·look-up) (Look 𝓛 at_mem run)) (known-answer : Triple 𝓤 (𝓣.C #answering·answer) (Answer 𝓛 at_mem run)) (known-replace : Triple 𝓤 (𝓣.C #lookup·replace) (Replace 𝓛 at_mem run)) (known-clear : Triple 𝓤 (𝓣.C #lookup·clear) (Clear 𝓛 at_mem run)) where
+module _ {M : Type 1} {𝓤 : Ura M} (𝓛 : Logic 𝓤) (at_mem : Memory → SProp 𝓤) (run : Routine → Fun 𝓤) (𝓣 : Tables 𝓤 𝓛.H) (known_look : Triple 𝓤 (𝓣.C #lookup·look-up) (Look 𝓛 at_mem run)) (known_answer : Triple 𝓤 (𝓣.C #answering·answer) (Answer 𝓛 at_mem run)) (known_replace : Triple 𝓤 (𝓣.C #lookup·replace) (Replace 𝓛 at_mem run)) (known_clear : Triple 𝓤 (𝓣.C #lookup·clear) (Clear 𝓛 at_mem run)) where
   open 𝓛 use {H}
 
   f-walks : Walks 𝓛 f.ended stayed (WpFn 𝓤 H 𝓣.C 𝓣.Λ code.function) (f.clauses 𝓛 at_mem run)
   f-walks = walked 𝓛 f.ended stayed (f.clauses 𝓛 at_mem run) (WpFn 𝓤 H 𝓣.C 𝓣.Λ code.function) (λ κs. (mut_slice_vals, (mut_vals, (mut_slice_vals, ((λ d. mach-v d ∷ []), (uint_vals w32, ((λ d. mach d ∷ []), tt)))))))
       (λ κs. (mut_slice_Tells (named 0) κs.0 T.the_row, (mut_Tells (named 1) κs.1.0 (Array u16 24), (mut_slice_Tells (named 2) κs.1.1.0 u64, (all-tell-v, (uint_Tells w32, (all_tell, tt)))))))
-      (λ κs qs bounds a g are. needs 𝓤 (Stands a.1.1.1.0 a.1.1.1.1.0 a.1.1.1.1.1.0 a.0.now (as-pointers a.1.0.now) a.1.1.0.now) _ (λ stands.
-      walk 𝓛 at_mem run κs.0 κs.1.0 κs.1.1.0 qs.0 qs.1.0 qs.1.1.0 a.0.ref_ptr.0 a.0.ref_ptr.1 a.0.ghost_name a.0.now a.1.0.ref_ptr.0 a.1.0.ref_ptr.1 a.1.0.ghost_name a.1.0.now a.1.1.0.ref_ptr.0 a.1.1.0.ref_ptr.1 a.1.1.0.ghost_name a.1.1.0.now a.1.1.1.0 are.1.1.1.0 a.1.1.1.1.0 are.1.1.1.1.0.1 a.1.1.1.1.1.0 are.1.1.1.1.1.0 stands are.0.0.1 are.1.1.0.0.1 𝓣 (fm_of 𝓤 H 𝓛.laws 𝓣) known_look known-answer known-replace known-clear))
+      (λ κs qs bounds a g are. needs 𝓤 (Stands a.1.1.1.0 a.1.1.1.1.0 a.1.1.1.1.1.0 a.0.now (as_pointers a.1.0.now) a.1.1.0.now) _ (λ stands.
+      walk 𝓛 at_mem run κs.0 κs.1.0 κs.1.1.0 qs.0 qs.1.0 qs.1.1.0 a.0.ref_ptr.0 a.0.ref_ptr.1 a.0.ghost_name a.0.now a.1.0.ref_ptr.0 a.1.0.ref_ptr.1 a.1.0.ghost_name a.1.0.now a.1.1.0.ref_ptr.0 a.1.1.0.ref_ptr.1 a.1.1.0.ghost_name a.1.1.0.now a.1.1.1.0 are.1.1.1.0 a.1.1.1.1.0 are.1.1.1.1.0.1 a.1.1.1.1.1.0 are.1.1.1.1.1.0 stands are.0.0.1 are.1.1.0.0.1 𝓣 (fm_of 𝓤 H 𝓛.laws 𝓣) known_look known_answer known_replace known_clear))
 
   all_go : AllGo 𝓛 3 (f.signature).params (f.ended).kept stayed
   all_go = (Goes-slice 𝓛 3 0 tt (plain (λ _. T.the_row)), (Goes-ref 𝓛 3 1 tt (ArrayOf (plain (λ _. u16)) (λ _. tt) 24), (Goes-slice 𝓛 3 2 tt (plain (λ _. u64)), (Goes-none 𝓛 3 (λ _. D.the_row) yes (λ κs x f. refl), (Goes-none 𝓛 3 (λ _. u32) yes (λ κs x f. refl), (Goes-none 𝓛 3 (λ _. P.the_row) yes (λ κs x f. refl), tt))))))
@@ -583,7 +583,7 @@ drive-spec 𝓤 𝓛 𝓜 𝓡 =
     entered 𝓤 𝓛.H (triple_of 𝓛 f.signature (f.spec 𝓛 𝓜.mem 𝓡.run))
     (tables 𝓤 𝓛.H 𝓜 𝓡 code.env).C (tables 𝓤 𝓛.H 𝓜 𝓡 code.env).Λ #own·drive code.function (code.unfolded 𝓤 𝓛.H 𝓜 𝓡)
     (f_meets 𝓛 𝓜.mem 𝓡.run (tables_of 𝓤 𝓛.H 𝓜 (tables 𝓤 𝓛.H 𝓜 𝓡 code.env))
-    (cited 𝓤 𝓛.H (Look 𝓛 𝓜.mem 𝓡.run) 𝓜 𝓡 code.env #lookup·look-up look-symbol.routine code.calls-lookup::look-up (look-met.met 𝓤 𝓛 𝓜 𝓡))
-    (cited 𝓤 𝓛.H (Answer 𝓛 𝓜.mem 𝓡.run) 𝓜 𝓡 code.env #answering·answer answer-symbol.routine code.calls-answering::answer (answer-met.met 𝓤 𝓛 𝓜 𝓡))
-    (cited 𝓤 𝓛.H (Replace 𝓛 𝓜.mem 𝓡.run) 𝓜 𝓡 code.env #lookup·replace replace-symbol.routine code.calls-lookup::replace (replace-met.met 𝓤 𝓛 𝓜 𝓡))
-    (cited 𝓤 𝓛.H (Clear 𝓛 𝓜.mem 𝓡.run) 𝓜 𝓡 code.env #lookup·clear clear-symbol.routine code.calls-lookup::clear (clear-met.met 𝓤 𝓛 𝓜 𝓡)))
+    (cited 𝓤 𝓛.H (Look 𝓛 𝓜.mem 𝓡.run) 𝓜 𝓡 code.env #lookup·look-up look_symbol.routine code.calls-lookup::look-up (look_met.met 𝓤 𝓛 𝓜 𝓡))
+    (cited 𝓤 𝓛.H (Answer 𝓛 𝓜.mem 𝓡.run) 𝓜 𝓡 code.env #answering·answer answer_symbol.routine code.calls-answering::answer (answer_met.met 𝓤 𝓛 𝓜 𝓡))
+    (cited 𝓤 𝓛.H (Replace 𝓛 𝓜.mem 𝓡.run) 𝓜 𝓡 code.env #lookup·replace replace_symbol.routine code.calls-lookup::replace (replace_met.met 𝓤 𝓛 𝓜 𝓡))
+    (cited 𝓤 𝓛.H (Clear 𝓛 𝓜.mem 𝓡.run) 𝓜 𝓡 code.env #lookup·clear clear_symbol.routine code.calls-lookup::clear (clear_met.met 𝓤 𝓛 𝓜 𝓡)))

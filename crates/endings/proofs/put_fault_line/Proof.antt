@@ -1,7 +1,7 @@
 -- `put_fault_line` meets its contract. Assumes nothing.
 use borrow.Author.Rules.{rules}
 use Rattle.model.specs.Listing.{ascii}
-use Rattle.endings.proofs.LastLineLaws.{next-after-fault-line, fault-line-put}
+use Rattle.endings.proofs.LastLineLaws.{next_after_fault_line, fault_line_put}
 use Rattle.endings.proofs.put_fault_line.Statement.{statement}
 use Rattle.endings.proofs.put_fault_line.Tie as tie
 
@@ -28,7 +28,7 @@ same_length c = search rules
 
 returns : tie.Need-returns
 unfolding ascii
-returns c = (search fault-line-put, search next-after-fault-line, search rules)
+returns c = (search fault_line_put, search next_after_fault_line, search rules)
 
 pub put-fault-line-spec : {M : Type 1} → statement M
 put-fault-line-spec =

@@ -1,7 +1,7 @@
 -- `put_last_line` meets its contract. Assumes nothing.
 use borrow.Author.Rules.{rules}
-use Rattle.model.specs.Listing.{ascii, line, refusal-line, last_line}
-use Rattle.endings.proofs.LastLineLaws.{last-line-laws}
+use Rattle.model.specs.Listing.{ascii, line, refusal_line, last_line}
+use Rattle.endings.proofs.LastLineLaws.{last_line_laws}
 use Rattle.endings.proofs.put_last_line.Statement.{statement}
 use Rattle.endings.proofs.put_last_line.Tie as tie
 
@@ -39,35 +39,35 @@ enum-known-reply-4 : tie.Need-enum-known-reply-4
 enum-known-reply-4 c = search rules
 
 put-fault-line-requires : tie.Need-put-fault-line-requires
-put-fault-line-requires c κs = search (rules, last-line-laws)
+put-fault-line-requires c κs = search (rules, last_line_laws)
 
 same_length : tie.Need-same-length
 same_length c = search rules
 
 returns : tie.Need-returns
-unfolding ascii line refusal-line last_line
-returns c = search (rules, last-line-laws)
+unfolding ascii line refusal_line last_line
+returns c = search (rules, last_line_laws)
 
 same-length-2 : tie.Need-same-length-2
 same-length-2 c = search rules
 
 returns-2 : tie.Need-returns-2
 unfolding ascii line last_line
-returns-2 c = search (rules, last-line-laws)
+returns-2 c = search (rules, last_line_laws)
 
 same-length-3 : tie.Need-same-length-3
 same-length-3 c = search rules
 
 returns-3 : tie.Need-returns-3
 unfolding ascii line last_line
-returns-3 c = search (rules, last-line-laws)
+returns-3 c = search (rules, last_line_laws)
 
 same-length-4 : tie.Need-same-length-4
 same-length-4 c = search rules
 
 returns-4 : tie.Need-returns-4
 unfolding ascii line last_line
-returns-4 c = search (rules, last-line-laws)
+returns-4 c = search (rules, last_line_laws)
 
 pub put-last-line-spec : {M : Type 1} → statement M
 put-last-line-spec =

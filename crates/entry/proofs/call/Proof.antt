@@ -42,12 +42,12 @@ use denote.Triple.Call.{calls_at}
 use denote.Triple.Clauses.{at_exit, ensured, lasts, Lasts}
 use denote.Triple.Table.{entered, cited}
 use denote.Triple.Walked.{says}
-use Rattle.entry.specs.Call.{together, Call-says}
+use Rattle.entry.specs.Call.{together, CallSays}
 use Rattle.state.specs.declared.Delivery.{Delivery}
 use Rattle.host.specs.declared.record.Registers.{Registers}
 use Rattle.entry.specs.declared.Answer.{Answer}
 use Rattle.entry.specs.declared.Answered.{Answered}
-use Rattle.entry.proofs.InPlace.{Rest, lends_part, comes-part}
+use Rattle.entry.proofs.InPlace.{Rest, lends_part, comes_part}
 use Rattle.host.specs.contracts.record.Registers as T
 use Rattle.host.proofs.record.Registers.TheLaws as T'
 use Rattle.state.specs.contracts.Delivery as Y
@@ -150,7 +150,7 @@ module _ {M : Type 1} {𝓤 : Ura M} (𝓛 : Logic 𝓤) (at_mem : Memory → SP
       move ! (3 ∷ 0 ∷ []) $ fjoin ! $ move ! (2 ∷ 0 ∷ []) $ fjoin ! $ move ! (1 ∷ 0 ∷ []) $ join ! $ frame ! $ done !
 
   -- at exit: the record's last value is h', and the memory's zs
-  exits : (r : Answer) (h' : Registers) (zs : List ℕ) → Is E.the_row r (answer-value r ∷ []) → Call-says single n h y.now r h' zs → length zs ≡ length y.now
+  exits : (r : Answer) (h' : Registers) (zs : List ℕ) → Is E.the_row r (answer-value r ∷ []) → CallSays single n h y.now r h' zs → length zs ≡ length y.now
       → ent 𝓤 (⋆ 𝓛 (‵ (fobs γ ((T.the_row).coded.code h')) ∷ ‵ (flft κ q) ∷ (‵ (flft κ' q') ⊛ ‵ ftrue) ∷ ‵ (finally u64 y.name zs) ∷ [])) ((Own 𝓛 at_mem run).post here (answer-value r))
   exits r h' zs g e l =
       qed 𝓛 (‵ (fobs γ ((T.the_row).coded.code h')) ∷ ‵ (flft κ q) ∷ (‵ (flft κ' q') ⊛ ‵ ftrue) ∷ ‵ (finally u64 y.name zs) ∷ []) ∵ updating ! $ at_once ! $
@@ -187,14 +187,14 @@ module _ {M : Type 1} {𝓤 : Ura M} (𝓛 : Logic 𝓤) (at_mem : Memory → SP
         (and_then ! (load ! (from ! (stop !)) (look ! 18 refl)) (and_then ! (load ! (from ! (stop !)) (look ! 16 refl)) (and_then ! (load ! (from ! (stop !)) (look ! 14 refl)) (and_then ! (load ! (from ! (stop !)) (look ! 24 refl)) (and_then ! (load ! (from ! (stop !)) (look ! 22 refl)) (no_more !))))))))) (λ w.
         use1 𝓛 (later (some (λ (r : Answered). ((‵ (flft (ν ∷ []) full_share) ⊛ ‵ (flft κ' q') ⊛ ‵ ftrue) ⊛ ‵ ((S.the_row).own_val r (w ∷ []))) ⊛ raw (ensured 𝓛 callee.ended (callee.clauses 𝓛 at_mem run) (ν ∷ [], (κ', tt)) (at_call (ν ∷ []) δ).0.3 tt r)))) (id⊢ 𝓤 _) $ await ! tt $ pick ! (λ r.
         -- what the callee ensures, at some last lists
-        split ! $ move ! (1 ∷ []) $ use1 𝓛 (some (λ (zs : Lasts callee.ended (ν ∷ [], (κ', tt)) (at_call (ν ∷ []) δ).0.3). ‵ (lasts callee.ended (ν ∷ [], (κ', tt)) (at_call (ν ∷ []) δ).0.3 zs) ⊛ raw (fact 𝓤 (Call-says single n h y.now r.answer (left h.delivery r zs.0) zs.1.0)))) (id⊢ 𝓤 _) $ pick ! (λ zs.
-        split ! $ move ! (1 ∷ []) $ heard ! (Call-says single n h y.now r.answer (left h.delivery r zs.0) zs.1.0) (λ e. fsplit ! $ move ! (1 ∷ []) $ fsplit ! $ fsplit ! $ move ! (1 ∷ []) $ feq_l ! (λ l.
+        split ! $ move ! (1 ∷ []) $ use1 𝓛 (some (λ (zs : Lasts callee.ended (ν ∷ [], (κ', tt)) (at_call (ν ∷ []) δ).0.3). ‵ (lasts callee.ended (ν ∷ [], (κ', tt)) (at_call (ν ∷ []) δ).0.3 zs) ⊛ raw (fact 𝓤 (CallSays single n h y.now r.answer (left h.delivery r zs.0) zs.1.0)))) (id⊢ 𝓤 _) $ pick ! (λ zs.
+        split ! $ move ! (1 ∷ []) $ heard ! (CallSays single n h y.now r.answer (left h.delivery r zs.0) zs.1.0) (λ e. fsplit ! $ move ! (1 ∷ []) $ fsplit ! $ fsplit ! $ move ! (1 ∷ []) $ feq_l ! (λ l.
         -- [the memory's last list; …; the array's; the tokens and the result; …]
         move ! (3 ∷ []) $ split ! $ move ! (1 ∷ []) $ peeks ! S.the_row (Is S.the_row) (shows 𝓛 S.the_row) r (w ∷ []) (λ is. let new = LL.owed S.the_type S'.the_laws r _ is in
         land ! (from ! (stop !)) (init ! 16 refl ((LL.lawful S.the_type S'.the_laws 𝓛).typed r _ is).0) $ rewrite ! 16 (λ (u : Val). ‵ (fat full_share S'.mir l₉ 0 u)) (ap only (LL.tells S.the_type S'.the_laws r _ is)) refl $
         -- the lifetime is ended, and the array is put back
         move ! (1 ∷ []) $ split ! $ lft_end ! tt $ move ! (0 ∷ 7 ∷ 5 ∷ []) $
-        use3 𝓛 (later (‵ (fat full_share T'.mir b o (record-value (together h.a h.dbr h.ipr h.delivery zs.0))) ⊛ ‵ ((Array u16 24).own_val zs.0 (array-value zs.0 ∷ [])))) (comes-part 𝓛 u16 24 in_place (ν ∷ []) δ zs.0 (array-value zs.0) (array_tells zs.0)) $ await ! tt $ split ! $
+        use3 𝓛 (later (‵ (fat full_share T'.mir b o (record-value (together h.a h.dbr h.ipr h.delivery zs.0))) ⊛ ‵ ((Array u16 24).own_val zs.0 (array-value zs.0 ∷ [])))) (comes_part 𝓛 u16 24 in_place (ν ∷ []) δ zs.0 (array-value zs.0) (array_tells zs.0)) $ await ! tt $ split ! $
         move ! (1 ∷ []) $ peeks ! (Array u16 24) Prs (shows 𝓛 (Array u16 24)) zs.0 (array-value zs.0 ∷ []) (λ k. drop ! $
         -- [the record's cell; the memory's token; what the answer owns; the memory's last list; …; …; the open borrow; obs; auth; _12; …; _11; …; _10; …; _9; …; _8; …; _7; …; _6; …; _5; …; _4; …; _3; …; _2; …; _1; …; room for _0; …]
         assigns ! (of_opd ! (load ! (from ! (fld ! refl (stop !))) (look_in ! 15 (sub ! 1 refl (whole !))))) (from ! (hop ! (look ! 31 refl) (fld ! refl (stop !)))) (store_in ! 0 (sub ! 0 refl (whole !)) (((T'.the_laws).0.lawful 𝓛).typed r.a _ new.1.0).0) $
@@ -220,4 +220,4 @@ unfolding code.routine tables_of
 call-spec 𝓤 𝓛 𝓜 𝓡 =
     entered 𝓤 𝓛.H (Own 𝓛 𝓜.mem 𝓡.run) (tables 𝓤 𝓛.H 𝓜 𝓡 code.env).C (tables 𝓤 𝓛.H 𝓜 𝓡 code.env).Λ #entry·call code.function (code.unfolded 𝓤 𝓛.H 𝓜 𝓡)
     (call-meets 𝓛 𝓜.mem 𝓡.run (tables_of 𝓤 𝓛.H 𝓜 (tables 𝓤 𝓛.H 𝓜 𝓡 code.env))
-    (cited 𝓤 𝓛.H (Callee 𝓛 𝓜.mem 𝓡.run) 𝓜 𝓡 code.env #entry·run-fields callee-symbol.routine code.calls-entry::run-fields (Callee-met.met 𝓤 𝓛 𝓜 𝓡)))
+    (cited 𝓤 𝓛.H (Callee 𝓛 𝓜.mem 𝓡.run) 𝓜 𝓡 code.env #entry·run-fields callee_symbol.routine code.calls-entry::run-fields (Callee_met.met 𝓤 𝓛 𝓜 𝓡)))

@@ -1,5 +1,5 @@
 -- `run_fields` meets its contract. Assumes nothing.
-use Rattle.entry.proofs.CallLaws.{parts-fit, call-says}
+use Rattle.entry.proofs.CallLaws.{parts_fit, call_says}
 use borrow.Author.Rules.{rules}
 use Rattle.entry.proofs.run_fields.Statement.{statement}
 use Rattle.entry.proofs.run_fields.Tie as tie
@@ -26,16 +26,16 @@ from-core-requires : tie.Need-from-core-requires
 from-core-requires c κs = search (rules, c.before.before.before.before.before.run-core.ensures.fits)
 
 from-base-requires : tie.Need-from-base-requires
-from-base-requires c κs = let f = c.before.before.before.before.before.before.run-core.ensures.core-fits (parts-fit _ _ _ c.before.before.before.before.before.before.before.before.before.before.to-base.ensures.1 c.before.before.before.before.before.before.before.before.before.before.to-base.ensures.2 c.before.before.before.before.before.before.before.before.before.to-core.ensures.1 c.before.before.before.before.before.before.before.before.before.to-core.ensures.2 c.before.before.before.before.before.before.before.before.before.to-core.ensures.3) in (f.address-fits, f.length-fits)
+from-base-requires c κs = let f = c.before.before.before.before.before.before.run-core.ensures.core_fits (parts_fit _ _ _ c.before.before.before.before.before.before.before.before.before.before.to-base.ensures.1 c.before.before.before.before.before.before.before.before.before.before.to-base.ensures.2 c.before.before.before.before.before.before.before.before.before.to-core.ensures.1 c.before.before.before.before.before.before.before.before.before.to-core.ensures.2 c.before.before.before.before.before.before.before.before.before.to-core.ensures.3) in (f.address_fits, f.length_fits)
 
 from-core-requires-2 : tie.Need-from-core-requires-2
-from-core-requires-2 c κs = let f = c.before.before.before.before.before.before.before.run-core.ensures.core-fits (parts-fit _ _ _ c.before.before.before.before.before.before.before.before.before.before.before.to-base.ensures.1 c.before.before.before.before.before.before.before.before.before.before.before.to-base.ensures.2 c.before.before.before.before.before.before.before.before.before.before.to-core.ensures.1 c.before.before.before.before.before.before.before.before.before.before.to-core.ensures.2 c.before.before.before.before.before.before.before.before.before.before.to-core.ensures.3) in (f.ring-fits, f.segment-fits, f.word_fits)
+from-core-requires-2 c κs = let f = c.before.before.before.before.before.before.before.run-core.ensures.core_fits (parts_fit _ _ _ c.before.before.before.before.before.before.before.before.before.before.before.to-base.ensures.1 c.before.before.before.before.before.before.before.before.before.before.before.to-base.ensures.2 c.before.before.before.before.before.before.before.before.before.before.to-core.ensures.1 c.before.before.before.before.before.before.before.before.before.before.to-core.ensures.2 c.before.before.before.before.before.before.before.before.before.before.to-core.ensures.3) in (f.ring_fits, f.segment_fits, f.word_fits)
 
 same_length : tie.Need-same-length
 same_length c = search rules
 
 returns : tie.Need-returns
-returns c = call-says _ _ _ _ _ _ _ _ c.before.before.before.before.before.before.before.before.before.before.before.before.to-base.ensures.0 c.before.before.before.before.before.before.before.before.before.before.before.to-core.ensures.0 _ _ _ _ _ c.before.before.before.before.before.before.before.before.run-core.ensures _ _ _ c.before.before.from-core.ensures c.from-core2.ensures c.before.from-base.ensures
+returns c = call_says _ _ _ _ _ _ _ _ c.before.before.before.before.before.before.before.before.before.before.before.before.to-base.ensures.0 c.before.before.before.before.before.before.before.before.before.before.before.to-core.ensures.0 _ _ _ _ _ c.before.before.before.before.before.before.before.before.run-core.ensures _ _ _ c.before.before.from-core.ensures c.from-core2.ensures c.before.from-base.ensures
 
 pub run-fields-spec : {M : Type 1} → statement M
 run-fields-spec =

@@ -38,11 +38,11 @@ use denote.Triple.Call.{calls_at}
 use denote.Triple.Clauses.{at_exit, ensured, lasts, Lasts}
 use denote.Triple.Table.{entered, cited}
 use denote.Triple.Walked.{says}
-use Rattle.model.specs.Answers.{check-numbers}
+use Rattle.model.specs.Answers.{check_numbers}
 use Rattle.model.specs.Check as Check
-use Rattle.host.specs.Record.{machine-of, delivery-of}
+use Rattle.host.specs.Record.{machine_of, delivery_of}
 use Rattle.host.specs.declared.record.Registers.{Registers}
-use Rattle.checks.specs.View.{as-numbers}
+use Rattle.checks.specs.View.{as_numbers}
 use Rattle.checks.specs.declared.Check as Answer
 use Rattle.host.specs.contracts.record.Registers as T
 use Rattle.host.proofs.record.Registers.TheLaws as T'
@@ -100,17 +100,17 @@ module _ {M : Type 1} {𝓤 : Ura M} (𝓛 : Logic 𝓤) (at_mem : Memory → SP
 
   told : (r : Answer.Check) → ent 𝓤 (Checked r) (Answered r)
   told r =
-      let Says : Type 0 = as-numbers r ≡ check-numbers (Check.check (delivery-of h) (machine-of h y.now) (record { ring = ring; segment = segment; word = word })) in
+      let Says : Type 0 = as_numbers r ≡ check_numbers (Check.check (delivery_of h) (machine_of h y.now) (record { ring = ring; segment = segment; word = word })) in
       qed 𝓛 (raw (Checked r) ∷ []) ∵ use1 𝓛 (some (λ (zs : Lasts callee.ended (κ', tt) at_call.0.3). ‵ (lasts callee.ended (κ', tt) at_call.0.3 zs) ⊛ raw (fact 𝓤 Says))) (id⊢ 𝓤 _) $ pick ! (λ zs. split ! $ move ! (1 ∷ []) $ heard ! Says (λ e.
       show ! (λ (ws : Lasts f.ended (κ, (κ', tt)) here.0.3). sep 𝓤 (sem 𝓛 (lasts f.ended (κ, (κ', tt)) here.0.3 ws)) ((f.clauses 𝓛 at_mem run (κ, (κ', tt)) here.0.3).ensures tt r (at_exit f.ended (κ, (κ', tt)) here.0.3 ws))) (tt, (tt, (tt, (tt, (tt, tt))))) $ says ! e $
       nothing ! $ nothing ! $ fjoin ! $ nothing ! $ fjoin ! $ nothing ! $ fjoin ! $ nothing ! $ fjoin ! $ nothing ! $ fjoin ! $ keep ! (0 ∷ []) $ done !))
 
   walk : Room u64 (length y.now) → ring < 2 ^ 8 → segment < 2 ^ 16 → word < 2 ^ 16 → (𝓣 : Tables 𝓤 H) → Triple 𝓤 (𝓣.C #checks·may-call) (Callee 𝓛 at_mem run)
       → ent 𝓤 (on_entry 𝓛 f.signature (κ, (κ', tt)) (q, (q', tt)) here.0.3 vals) (WpFn 𝓤 H 𝓣.C 𝓣.Λ code.function (flat (types_at (f.signature).params (κ, (κ', tt))) vals) ((Own 𝓛 at_mem run).post here))
-  walk room ring-fits segment-fits word_fits 𝓣 known =
+  walk room ring_fits segment_fits word_fits 𝓣 known =
       qed 𝓛 ((‵ (flft κ q) ⊛ ‵ (flft κ' q') ⊛ ‵ ftrue) ∷ ‵ (owns (ShrRef (named 0) κ T.the_row ∷ ShrSlice (named 1) κ' u64 ∷ u8 ∷ u16 ∷ u16 ∷ []) here.0.3 vals) ∷ []) ∵ enter ! 𝓣.C 𝓣.Λ code.function _ _ $
       alloc1 ! (λ l₀. alloc1 ! (λ l₁. alloc1 ! (λ l₂. alloc1 ! (λ l₃. alloc1 ! (λ l₄. alloc1 ! (λ l₅. alloc1 ! (λ l₆. alloc0 ! $ params1 ! $
-      pass1 ! (init ! 10 refl (tt, tt)) $ pass1 ! (init ! 8 refl (tt, (tt, (record { fits = room.0 }, tt)))) $ pass1 ! (init ! 6 refl (tt, record { fits = ring-fits })) $ pass1 ! (init ! 4 refl (tt, record { fits = segment-fits })) $ pass1 ! (init ! 2 refl (tt, record { fits = word_fits })) $ pass0 ! $
+      pass1 ! (init ! 10 refl (tt, tt)) $ pass1 ! (init ! 8 refl (tt, (tt, (record { fits = room.0 }, tt)))) $ pass1 ! (init ! 6 refl (tt, record { fits = ring_fits })) $ pass1 ! (init ! 4 refl (tt, record { fits = segment_fits })) $ pass1 ! (init ! 2 refl (tt, record { fits = word_fits })) $ pass0 ! $
       -- the borrow of the record is looked into
       move ! (15 ∷ []) $ fsplit ! $ fsplit ! $ drop ! $ move ! (16 ∷ []) $ split ! $ move ! (2 ∷ 0 ∷ []) $
       looks ! tt T.the_row (Is T.the_row) (shows 𝓛 T.the_row) (LL.vals T.the_type T'.the_laws) (LL.tells T.the_type T'.the_laws) (LL.copy T.the_type T'.the_copy 𝓛) h b o (λ q'' vs.
@@ -141,4 +141,4 @@ unfolding code.routine tables_of
 kuzhlemor-may-call-spec 𝓤 𝓛 𝓜 𝓡 =
     entered 𝓤 𝓛.H (Own 𝓛 𝓜.mem 𝓡.run) (tables 𝓤 𝓛.H 𝓜 𝓡 code.env).C (tables 𝓤 𝓛.H 𝓜 𝓡 code.env).Λ #kuzhlemor·kuzhlemor-may-call code.function (code.unfolded 𝓤 𝓛.H 𝓜 𝓡)
     (kuzhlemor-may-call-meets 𝓛 𝓜.mem 𝓡.run (tables_of 𝓤 𝓛.H 𝓜 (tables 𝓤 𝓛.H 𝓜 𝓡 code.env))
-    (cited 𝓤 𝓛.H (Callee 𝓛 𝓜.mem 𝓡.run) 𝓜 𝓡 code.env #checks·may-call callee-symbol.routine code.calls-checks::may-call (Callee-met.met 𝓤 𝓛 𝓜 𝓡)))
+    (cited 𝓤 𝓛.H (Callee 𝓛 𝓜.mem 𝓡.run) 𝓜 𝓡 code.env #checks·may-call callee_symbol.routine code.calls-checks::may-call (Callee_met.met 𝓤 𝓛 𝓜 𝓡)))

@@ -1,5 +1,5 @@
 -- `kuzhlemor_run` meets its contract: a walk of its MIR, by hand. The record and the memory are passed on to `call` at their own lifetimes, shares and ghost names, for good, with the budget, as a run.
--- What `call` says of its answer and of the last values is what `kuzhlemor_run` says, since a run counts its completed steps alone (`as-run`). So the one's `post` becomes the other's with no part of it taken apart but the fact.
+-- What `call` says of its answer and of the last values is what `kuzhlemor_run` says, since a run counts its completed steps alone (`as_run`). So the one's `post` becomes the other's with no part of it taken apart but the fact.
 -- Assumes nothing.
 use mathlib.Core.Path.{refl}
 use mathlib.Core.Bool.{false}
@@ -37,8 +37,8 @@ use denote.Triple.Call.{calls_at}
 use denote.Triple.Clauses.{at_exit, ensured, lasts, Lasts}
 use denote.Triple.Table.{entered, cited}
 use denote.Triple.Walked.{says}
-use Rattle.entry.specs.Call.{Call-says}
-use Rattle.kuzhlemor.proofs.EntryLaws.{as-run}
+use Rattle.entry.specs.Call.{CallSays}
+use Rattle.kuzhlemor.proofs.EntryLaws.{as_run}
 use Rattle.host.specs.declared.record.Registers.{Registers}
 use Rattle.entry.specs.declared.Answer.{Answer}
 use Rattle.host.specs.contracts.record.Registers as T
@@ -92,9 +92,9 @@ module _ {M : Type 1} {𝓤 : Ura M} (𝓛 : Logic 𝓤) (at_mem : Memory → SP
 
   told : (r : Answer) → ent 𝓤 (Ran r) (Stepped r)
   told r =
-      let Says : Lasts callee.ended κs (x, (y, (n, (false, tt)))) → Type 0 = λ zs. Call-says false n x.now y.now r zs.0 zs.1.0 in
+      let Says : Lasts callee.ended κs (x, (y, (n, (false, tt)))) → Type 0 = λ zs. CallSays false n x.now y.now r zs.0 zs.1.0 in
       qed 𝓛 (raw (Ran r) ∷ []) ∵ use1 𝓛 (some (λ (zs : Lasts callee.ended κs (x, (y, (n, (false, tt))))). ‵ (lasts callee.ended κs (x, (y, (n, (false, tt)))) zs) ⊛ raw (fact 𝓤 (Says zs)))) (id⊢ 𝓤 _) $ pick ! (λ zs. split ! $ move ! (1 ∷ []) $ heard ! (Says zs) (λ e.
-      show ! (λ (ws : Lasts f.ended κs (x, (y, (n, tt)))). sep 𝓤 (sem 𝓛 (lasts f.ended κs (x, (y, (n, tt))) ws)) ((f.clauses 𝓛 at_mem run κs (x, (y, (n, tt)))).ensures tt r (at_exit f.ended κs (x, (y, (n, tt))) ws))) (zs.0, (zs.1.0, (tt, tt))) $ says ! (as-run _ _ _ _ _ _ e) $
+      show ! (λ (ws : Lasts f.ended κs (x, (y, (n, tt)))). sep 𝓤 (sem 𝓛 (lasts f.ended κs (x, (y, (n, tt))) ws)) ((f.clauses 𝓛 at_mem run κs (x, (y, (n, tt)))).ensures tt r (at_exit f.ended κs (x, (y, (n, tt))) ws))) (zs.0, (zs.1.0, (tt, tt))) $ says ! (as_run _ _ _ _ _ _ e) $
       -- [the record's last value, the memory's, …]
       fsplit ! $ move ! (1 ∷ []) $ fsplit ! $ nothing ! $ nothing ! $ fjoin ! $ move ! (1 ∷ 0 ∷ []) $ fjoin ! $ move ! (2 ∷ 0 ∷ []) $ fjoin ! $ keep ! (0 ∷ []) $ done !))
 
@@ -129,4 +129,4 @@ unfolding code.routine tables_of
 kuzhlemor-run-spec 𝓤 𝓛 𝓜 𝓡 =
     entered 𝓤 𝓛.H (Own 𝓛 𝓜.mem 𝓡.run) (tables 𝓤 𝓛.H 𝓜 𝓡 code.env).C (tables 𝓤 𝓛.H 𝓜 𝓡 code.env).Λ #kuzhlemor·kuzhlemor-run code.function (code.unfolded 𝓤 𝓛.H 𝓜 𝓡)
     (kuzhlemor-run-meets 𝓛 𝓜.mem 𝓡.run (tables_of 𝓤 𝓛.H 𝓜 (tables 𝓤 𝓛.H 𝓜 𝓡 code.env))
-    (cited 𝓤 𝓛.H (Callee 𝓛 𝓜.mem 𝓡.run) 𝓜 𝓡 code.env #entry·call callee-symbol.routine code.calls-entry::call (Callee-met.met 𝓤 𝓛 𝓜 𝓡)))
+    (cited 𝓤 𝓛.H (Callee 𝓛 𝓜.mem 𝓡.run) 𝓜 𝓡 code.env #entry·call callee_symbol.routine code.calls-entry::call (Callee_met.met 𝓤 𝓛 𝓜 𝓡)))

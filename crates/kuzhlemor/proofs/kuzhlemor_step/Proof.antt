@@ -37,7 +37,7 @@ use denote.Triple.Call.{calls_at}
 use denote.Triple.Clauses.{at_exit, ensured, lasts, Lasts}
 use denote.Triple.Table.{entered, cited}
 use denote.Triple.Walked.{says}
-use Rattle.entry.specs.Call.{Call-says}
+use Rattle.entry.specs.Call.{CallSays}
 use Rattle.kuzhlemor.proofs.EntryLaws.{as_step}
 use Rattle.host.specs.declared.record.Registers.{Registers}
 use Rattle.entry.specs.declared.Answer.{Answer}
@@ -92,7 +92,7 @@ module _ {M : Type 1} {𝓤 : Ura M} (𝓛 : Logic 𝓤) (at_mem : Memory → SP
 
   told : (r : Answer) → ent 𝓤 (Ran r) (Stepped r)
   told r =
-      let Says : Lasts callee.ended κs (x, (y, (1, (true, tt)))) → Type 0 = λ zs. Call-says true 1 x.now y.now r zs.0 zs.1.0 in
+      let Says : Lasts callee.ended κs (x, (y, (1, (true, tt)))) → Type 0 = λ zs. CallSays true 1 x.now y.now r zs.0 zs.1.0 in
       qed 𝓛 (raw (Ran r) ∷ []) ∵ use1 𝓛 (some (λ (zs : Lasts callee.ended κs (x, (y, (1, (true, tt))))). ‵ (lasts callee.ended κs (x, (y, (1, (true, tt)))) zs) ⊛ raw (fact 𝓤 (Says zs)))) (id⊢ 𝓤 _) $ pick ! (λ zs. split ! $ move ! (1 ∷ []) $ heard ! (Says zs) (λ e.
       show ! (λ (ws : Lasts f.ended κs (x, (y, tt))). sep 𝓤 (sem 𝓛 (lasts f.ended κs (x, (y, tt)) ws)) ((f.clauses 𝓛 at_mem run κs (x, (y, tt))).ensures tt r (at_exit f.ended κs (x, (y, tt)) ws))) (zs.0, (zs.1.0, tt)) $ says ! (as_step _ _ _ _ _ e) $
       -- [the record's last value, the memory's, …]
@@ -129,4 +129,4 @@ unfolding code.routine tables_of
 kuzhlemor-step-spec 𝓤 𝓛 𝓜 𝓡 =
     entered 𝓤 𝓛.H (Own 𝓛 𝓜.mem 𝓡.run) (tables 𝓤 𝓛.H 𝓜 𝓡 code.env).C (tables 𝓤 𝓛.H 𝓜 𝓡 code.env).Λ #kuzhlemor·kuzhlemor-step code.function (code.unfolded 𝓤 𝓛.H 𝓜 𝓡)
     (kuzhlemor-step-meets 𝓛 𝓜.mem 𝓡.run (tables_of 𝓤 𝓛.H 𝓜 (tables 𝓤 𝓛.H 𝓜 𝓡 code.env))
-    (cited 𝓤 𝓛.H (Callee 𝓛 𝓜.mem 𝓡.run) 𝓜 𝓡 code.env #entry·call callee-symbol.routine code.calls-entry::call (Callee-met.met 𝓤 𝓛 𝓜 𝓡)))
+    (cited 𝓤 𝓛.H (Callee 𝓛 𝓜.mem 𝓡.run) 𝓜 𝓡 code.env #entry·call callee_symbol.routine code.calls-entry::call (Callee_met.met 𝓤 𝓛 𝓜 𝓡)))

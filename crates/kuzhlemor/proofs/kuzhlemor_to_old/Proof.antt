@@ -1,5 +1,5 @@
 -- `kuzhlemor_to_old` meets its contract. Assumes nothing.
-use Rattle.old.specs.View.{as-way}
+use Rattle.old.specs.View.{as_way}
 use borrow.Author.Rules.{rules}
 use Rattle.kuzhlemor.proofs.kuzhlemor_to_old.Statement.{statement}
 use Rattle.kuzhlemor.proofs.kuzhlemor_to_old.Tie as tie
@@ -11,7 +11,7 @@ same_length : tie.Need-same-length
 same_length c = search rules
 
 returns : tie.Need-returns
-unfolding as-way
+unfolding as_way
 returns c = search rules
 
 pub kuzhlemor-to-old-spec : {M : Type 1} → statement M

@@ -9,7 +9,7 @@ use lib.ListN.{length}
 use lib.Dec.{T as Holds}
 use seplogic.Ra.Ura.{Ura}
 use seplogic.Ra.TreeShare.{full_share}
-use mir.Syntax.{Ty, named, w16, w32, w64, ty_array, ty_int, Body as MirBody, seq, assign, place, deref, field, rv_opd, copy, addr_of, aggregate, return, call as mir-call}
+use mir.Syntax.{Ty, named, w16, w32, w64, ty_array, ty_int, Body as MirBody, seq, assign, place, deref, field, rv_opd, copy, addr_of, aggregate, return, call as mir_call}
 use mir.Val.{Val, WT, has_ty, vint, vbool, vptr, vstruct, of_list}
 use base.Logic.{SProp, ent, sep, emp, via, ex_e, fst∗, snd∗, id⊢}
 use base.Fml.{GName, Lft, Share, ftrue, flft, fobs, fauth, fobor, fres, fat, froom, fdies}
@@ -46,21 +46,21 @@ use denote.Triple.Table.{entered, cited}
 use denote.Triple.Walked.{says}
 use Rattle.entry.specs.Call.{together}
 use Rattle.entry.specs.declared.Answer.{Answer}
-use Rattle.entry.proofs.InPlace.{Rest, lends_part, comes-part}
+use Rattle.entry.proofs.InPlace.{Rest, lends_part, comes_part}
 use Rattle.lookup.specs.declared.Record.{Record}
 use Rattle.lookup.proofs.Parts.{ty_at}
-use Rattle.state.specs.View.{as-delivery}
+use Rattle.state.specs.View.{as_delivery}
 use Rattle.state.specs.declared.Core.{Core}
 use Rattle.state.specs.declared.Delivery.{Delivery}
-use Rattle.host.specs.Record.{In-record}
+use Rattle.host.specs.Record.{InRecord}
 use Rattle.host.specs.declared.record.DescriptorBase.{DescriptorBase}
 use Rattle.host.specs.declared.record.Pointer.{Pointer}
 use Rattle.host.specs.declared.record.Registers.{Registers}
-use Rattle.answers.specs.Answer.{Answer-fits}
+use Rattle.answers.specs.Answer.{AnswerFits}
 use Rattle.answers.specs.declared.Answered.{Answered}
-use Rattle.kuzhlemor_close.specs.Entry.{Runs-close, Close-says, Core-from, Fields-of}
+use Rattle.kuzhlemor_close.specs.Entry.{RunsClose, CloseSays, CoreFrom, FieldsOf}
 use Rattle.kuzhlemor_close.specs.declared.Fields.{Fields}
-use Rattle.kuzhlemor_close.proofs.RunLaws.{can-field, call-says}
+use Rattle.kuzhlemor_close.proofs.RunLaws.{can_field, call_says}
 use Rattle.host.specs.contracts.record.Registers as T
 use Rattle.host.proofs.record.Registers.TheLaws as T'
 use Rattle.lookup.specs.contracts.Record as R
@@ -213,7 +213,7 @@ abbrev b_13 : MirBody
 b_13 = seq (assign (place 1 (deref reg ∷ field 0 ∷ [])) (rv_opd (copy (place 12 (field 1 ∷ []))))) b_14
 
 abbrev b_12 : MirBody
-b_12 = seq (mir-call #own·fields-of (copy (place 11 []) ∷ []) (place 12 [])) b_13
+b_12 = seq (mir_call #own·fields-of (copy (place 11 []) ∷ []) (place 12 [])) b_13
 
 abbrev b_6 : MirBody
 b_6 =
@@ -222,7 +222,7 @@ b_6 =
     seq (assign (place 15 []) (addr_of (place 1 (deref reg ∷ field 3 ∷ [])))) (
     seq (assign (place 16 []) (addr_of (place 2 (field 0 ∷ deref (ty_int w64) ∷ [])))) (
     seq (assign (place 17 []) (aggregate (copy (place 16 []) ∷ copy (place 2 (field 1 ∷ [])) ∷ []))) (
-    seq (mir-call #own·run (copy (place 14 []) ∷ copy (place 15 []) ∷ copy (place 17 []) ∷ copy (place 10 []) ∷ copy (place 9 []) ∷ copy (place 4 []) ∷ copy (place 5 []) ∷ []) (place 11 [])) b_12)))))
+    seq (mir_call #own·run (copy (place 14 []) ∷ copy (place 15 []) ∷ copy (place 17 []) ∷ copy (place 10 []) ∷ copy (place 9 []) ∷ copy (place 4 []) ∷ copy (place 5 []) ∷ []) (place 11 [])) b_12)))))
 
 abbrev b_1 : MirBody
 b_1 =
@@ -230,7 +230,7 @@ b_1 =
     seq (assign (place 7 []) (rv_opd (copy (place 1 (deref reg ∷ field 1 ∷ []))))) (
     seq (assign (place 8 []) (rv_opd (copy (place 1 (deref reg ∷ field 2 ∷ []))))) (
     seq (assign (place 9 []) (rv_opd (copy (place 1 (deref reg ∷ field 4 ∷ []))))) (
-    seq (mir-call #own·core-from (copy (place 6 []) ∷ copy (place 7 []) ∷ copy (place 8 []) ∷ []) (place 10 [])) b_6))))
+    seq (mir_call #own·core-from (copy (place 6 []) ∷ copy (place 7 []) ∷ copy (place 8 []) ∷ []) (place 10 [])) b_6))))
 
 same_body : pieces.t-1 ≡ b_1
 unfolding reg rec
@@ -383,7 +383,7 @@ module _ {M : Type 1} {𝓤 : Ura M} (𝓛 : Logic 𝓤) (at_mem : Memory → SP
   prs δ = record { ref_ptr = (b, o + 22); ghost_name = δ; now = h.prs }
 
   abbrev Ran : Core → Answered → List ℕ → List ℕ → List Record → Type 0
-  Ran c r ps ms rs = Runs-close (as-delivery h.delivery) single n c h.prs y.now z.now r ps ms rs
+  Ran c r ps ms rs = RunsClose (as_delivery h.delivery) single n c h.prs y.now z.now r ps ms rs
 
   lands-c : (r : Core) (w : Val) → Is C.the_row r (w ∷ []) → Holds (has_ty τ₁₀ w) × WT w
   unfolding τ₁₀
@@ -430,8 +430,8 @@ module _ {M : Type 1} {𝓤 : Ura M} (𝓛 : Logic 𝓤) (at_mem : Memory → SP
       qed 𝓛 [] ∵ nothing ! $ owned ! P.the_row (Is P.the_row) (LL.makes P.the_type P'.the_plain 𝓛) h.ipr _ (ipr-is h g) $ fjoin ! $ owned ! D.the_row (Is D.the_row) (LL.makes D.the_type D'.the_plain 𝓛) h.dbr _ (dbr-is h g) $ fjoin ! $ owned ! u64 (Is u64) (uint_Makes 𝓛 w64) h.a _ (a-is h g) $ fjoin ! $
       nothing ! $ join ! $ frame ! $ done !
 
-  of-core : (c : Core) → ent 𝓤 (ensured 𝓛 core.ended (core.clauses 𝓛 at_mem run) tt (h.a, (h.dbr, (h.ipr, tt))) tt c) (fact 𝓤 (Core-from h.a h.dbr h.ipr c))
-  of-core c = ex_e 𝓤 _ (λ ws. snd∗ 𝓤 (sem 𝓛 (lasts core.ended tt (h.a, (h.dbr, (h.ipr, tt))) ws)) (fact 𝓤 (Core-from h.a h.dbr h.ipr c)))
+  of-core : (c : Core) → ent 𝓤 (ensured 𝓛 core.ended (core.clauses 𝓛 at_mem run) tt (h.a, (h.dbr, (h.ipr, tt))) tt c) (fact 𝓤 (CoreFrom h.a h.dbr h.ipr c))
+  of-core c = ex_e 𝓤 _ (λ ws. snd∗ 𝓤 (sem 𝓛 (lasts core.ended tt (h.a, (h.dbr, (h.ipr, tt))) ws)) (fact 𝓤 (CoreFrom h.a h.dbr h.ipr c)))
 
   -- a lifetime ν of the call for the array, and memory's and the records' own
   abbrev to-run : Lft → GName → Core → (Run 𝓛 at_mem run).Ghost
@@ -449,14 +449,14 @@ module _ {M : Type 1} {𝓤 : Ura M} (𝓛 : Logic 𝓤) (at_mem : Memory → SP
   abbrev to_fields : Answered → (FieldsOf 𝓛 at_mem run).Ghost
   to_fields r = ((tt, tt, tt, (r, tt), (mach-x r ∷ [], tt)), tt)
 
-  goes-fields : (r : Answered) → Fits-x r → Answer-fits r × In-record r.core → ent 𝓤 (emp 𝓤) ((FieldsOf 𝓛 at_mem run).pre (to_fields r))
+  goes-fields : (r : Answered) → Fits-x r → AnswerFits r × InRecord r.core → ent 𝓤 (emp 𝓤) ((FieldsOf 𝓛 at_mem run).pre (to_fields r))
   goes-fields r gr can = qed 𝓛 [] ∵ says ! can $ nothing ! $ owned ! S.the_row (Is S.the_row) (LL.makes S.the_type S'.the_plain 𝓛) r _ gr $ fjoin ! $ nothing ! $ done !
 
-  of_fields : (r : Answered) (d : Fields) → ent 𝓤 (ensured 𝓛 fields.ended (fields.clauses 𝓛 at_mem run) tt (r, tt) tt d) (fact 𝓤 (Fields-of r d))
-  of_fields r d = ex_e 𝓤 _ (λ ws. snd∗ 𝓤 (sem 𝓛 (lasts fields.ended tt (r, tt) ws)) (fact 𝓤 (Fields-of r d)))
+  of_fields : (r : Answered) (d : Fields) → ent 𝓤 (ensured 𝓛 fields.ended (fields.clauses 𝓛 at_mem run) tt (r, tt) tt d) (fact 𝓤 (FieldsOf r d))
+  of_fields r d = ex_e 𝓤 _ (λ ws. snd∗ 𝓤 (sem 𝓛 (lasts fields.ended tt (r, tt) ws)) (fact 𝓤 (FieldsOf r d)))
 
   -- at exit: the record's last value is h', the memory's ms, the records' rs
-  exits : (r : Answer) (h' : Registers) (ms : List ℕ) (rs : List Record) → Is E.the_row r (answer-value r ∷ []) → Close-says single n h y.now z.now r h' ms rs → length ms ≡ length y.now → length rs ≡ length z.now
+  exits : (r : Answer) (h' : Registers) (ms : List ℕ) (rs : List Record) → Is E.the_row r (answer-value r ∷ []) → CloseSays single n h y.now z.now r h' ms rs → length ms ≡ length y.now → length rs ≡ length z.now
       → ent 𝓤 (⋆ 𝓛 (‵ (fobs γ ((T.the_row).coded.code h')) ∷ ‵ (flft κ q) ∷ ‵ (flft κ₁ q₁) ∷ ‵ (flft κ₂ q₂) ∷ ‵ (finally u64 y.name ms) ∷ ‵ (finally R.the_row z.name rs) ∷ [])) (Post (answer-value r))
   exits r h' ms rs g e l₁ l₂ =
       qed 𝓛 (‵ (fobs γ ((T.the_row).coded.code h')) ∷ ‵ (flft κ q) ∷ ‵ (flft κ₁ q₁) ∷ ‵ (flft κ₂ q₂) ∷ ‵ (finally u64 y.name ms) ∷ ‵ (finally R.the_row z.name rs) ∷ []) ∵ updating ! $ at_once ! $
@@ -467,13 +467,13 @@ module _ {M : Type 1} {𝓤 : Ura M} (𝓛 : Logic 𝓤) (at_mem : Memory → SP
       show ! (λ (ws : Lasts f.ended here.0.0 here.0.3). sep 𝓤 (sem 𝓛 (lasts f.ended here.0.0 here.0.3 ws)) ((f.clauses 𝓛 at_mem run here.0.0 here.0.3).ensures tt r (at_exit f.ended here.0.0 here.0.3 ws))) (h', (ms, (rs, (tt, (tt, tt))))) $ says ! e $
       nothing ! $ nothing ! $ fjoin ! $ nothing ! $ fjoin ! $ feq_i ! ℕ (length rs) (length z.now) l₂ $ move ! (4 ∷ 0 ∷ []) $ fjoin ! $ fjoin ! $ feq_i ! ℕ (length ms) (length y.now) l₁ $ move ! (3 ∷ 0 ∷ []) $ fjoin ! $ fjoin ! $ move ! (1 ∷ 0 ∷ []) $ fjoin ! $ done !
 
-  module _ (𝓣 : Tables 𝓤 H) (known-core : Triple 𝓤 (𝓣.C #own·core-from) (CoreFrom 𝓛 at_mem run)) (known-run : Triple 𝓤 (𝓣.C #own·run) (Run 𝓛 at_mem run)) (known-fields : Triple 𝓤 (𝓣.C #own·fields-of) (FieldsOf 𝓛 at_mem run)) (room₁ : Room u64 (length y.now)) (room₂ : Room R.the_row (length z.now)) (fits : n < 2 ^ 32) where
+  module _ (𝓣 : Tables 𝓤 H) (known_core : Triple 𝓤 (𝓣.C #own·core-from) (CoreFrom 𝓛 at_mem run)) (known_run : Triple 𝓤 (𝓣.C #own·run) (Run 𝓛 at_mem run)) (known_fields : Triple 𝓤 (𝓣.C #own·fields-of) (FieldsOf 𝓛 at_mem run)) (room₁ : Room u64 (length y.now)) (room₂ : Room R.the_row (length z.now)) (fits : n < 2 ^ 32) where
     module _ (l₀ l₁ l₂ l₃ l₄ l₅ l₆ l₇ l₈ l₉ l₁₀ l₁₁ l₁₂ l₁₃ l₁₄ l₁₅ l₁₆ l₁₇ : ℕ) where
       abbrev En : Env 𝓤 H
       En = (τ₀, l₀) ∷ (τ₁, l₁) ∷ (τ₂, l₂) ∷ (τ₃, l₃) ∷ (τ₄, l₄) ∷ (τ₅, l₅) ∷ (τ₆, l₆) ∷ (τ₇, l₇) ∷ (τ₈, l₈) ∷ (τ₉, l₉) ∷ (τ₁₀, l₁₀) ∷ (τ₁₁, l₁₁) ∷ (τ₁₂, l₁₂) ∷ (τ₁₃, l₁₃) ∷ (τ₁₄, l₁₄) ∷ (τ₁₅, l₁₅) ∷ (τ₁₆, l₁₆) ∷ (τ₁₇, l₁₇) ∷ []
 
       -- the last part: the return
-      leaves : (r : Answer) (h' : Registers) (ms : List ℕ) (rs : List Record) → Is E.the_row r (answer-value r ∷ []) → Close-says single n h y.now z.now r h' ms rs → length ms ≡ length y.now → length rs ≡ length z.now
+      leaves : (r : Answer) (h' : Registers) (ms : List ℕ) (rs : List Record) → Is E.the_row r (answer-value r ∷ []) → CloseSays single n h y.now z.now r h' ms rs → length ms ≡ length y.now → length rs ≡ length z.now
           → Sq 𝓛 (‵ (fobs γ ((T.the_row).coded.code h')) ∷ ‵ (flft κ q) ∷ ‵ (flft κ₁ q₁) ∷ ‵ (flft κ₂ q₂) ∷ ‵ (finally u64 y.name ms) ∷ ‵ (finally R.the_row z.name rs) ∷ ‵ (froom τ₁₇ l₁₇ 0) ∷ ‵ (fdies τ₁₇ l₁₇) ∷ ‵ (froom τ₁₆ l₁₆ 0) ∷ ‵ (fdies τ₁₆ l₁₆) ∷ ‵ (froom τ₁₅ l₁₅ 0) ∷ ‵ (fdies τ₁₅ l₁₅) ∷ ‵ (froom τ₁₄ l₁₄ 0) ∷ ‵ (fdies τ₁₄ l₁₄) ∷ ‵ (froom τ₁₃ l₁₃ 0) ∷ ‵ (fdies τ₁₃ l₁₃) ∷ ‵ (froom τ₁₂ l₁₂ 0) ∷ ‵ (fdies τ₁₂ l₁₂) ∷ ‵ (froom τ₁₁ l₁₁ 0) ∷ ‵ (fdies τ₁₁ l₁₁) ∷ ‵ (froom τ₁₀ l₁₀ 0) ∷ ‵ (fdies τ₁₀ l₁₀) ∷ ‵ (froom τ₉ l₉ 0) ∷ ‵ (fdies τ₉ l₉) ∷ ‵ (froom τ₈ l₈ 0) ∷ ‵ (fdies τ₈ l₈) ∷ ‵ (froom τ₇ l₇ 0) ∷ ‵ (fdies τ₇ l₇) ∷ ‵ (froom τ₆ l₆ 0) ∷ ‵ (fdies τ₆ l₆) ∷ ‵ (fat full_share τ₅ l₅ 0 (vbool single)) ∷ ‵ (fdies τ₅ l₅) ∷ ‵ (fat full_share τ₄ l₄ 0 (vint w32 n)) ∷ ‵ (fdies τ₄ l₄) ∷ ‵ (fat full_share τ₃ l₃ 0 (sl₂)) ∷ ‵ (fdies τ₃ l₃) ∷ ‵ (fat full_share τ₂ l₂ 0 (sl₁)) ∷ ‵ (fdies τ₂ l₂) ∷ ‵ (fat full_share τ₁ l₁ 0 (vptr b o)) ∷ ‵ (fdies τ₁ l₁) ∷ ‵ (fat full_share τ₀ l₀ 0 (answer-value r)) ∷ ‵ (fdies τ₀ l₀) ∷ []) (runs 𝓣.C 𝓣.Λ En b-17 (at_ret En Post))
       leaves r h' ms rs gr e l₁ₘ l₂ₘ =
           returns ! (look ! 40 refl) $ forget ! 40 refl $ forget ! 38 refl $ forget ! 36 refl $ forget ! 34 refl $ forget ! 32 refl $ forget ! 30 refl $ move ! (40 ∷ 41 ∷ []) $ free1 ! $ move ! (38 ∷ 39 ∷ []) $
@@ -483,7 +483,7 @@ module _ {M : Type 1} {𝓤 : Ura M} (𝓛 : Logic 𝓤) (at_mem : Memory → SP
           by ! (exits r h' ms rs gr e l₁ₘ l₂ₘ)
 
       -- the fourth: the fields are stored, and the borrow is closed
-      closing : Good h → (c : Core) → Core-from h.a h.dbr h.ipr c → (r : Answered) (ps ms : List ℕ) (rs : List Record) → Prs ps (array-value ps ∷ []) → Ran c r ps ms rs → length ms ≡ length y.now → length rs ≡ length z.now → (d : Fields) (v : Val) → Is F.the_row d (v ∷ []) → Fields-of r d
+      closing : Good h → (c : Core) → CoreFrom h.a h.dbr h.ipr c → (r : Answered) (ps ms : List ℕ) (rs : List Record) → Prs ps (array-value ps ∷ []) → Ran c r ps ms rs → length ms ≡ length y.now → length rs ≡ length z.now → (d : Fields) (v : Val) → Is F.the_row d (v ∷ []) → FieldsOf r d
           → Sq 𝓛 (‵ (fat full_share T'.mir b o (spelt-out d.a d.dbr d.ipr ps h.delivery)) ∷ ‵ (fobor κ q (Body (mem T.the_row) b o γ)) ∷ ‵ (fobs γ ((T.the_row).coded.code h)) ∷ ‵ (fauth γ ((T.the_row).coded.code h)) ∷ ‵ (flft κ₁ q₁) ∷ ‵ (flft κ₂ q₂) ∷ ‵ (finally u64 y.name ms) ∷ ‵ (finally R.the_row z.name rs) ∷ ‵ (froom τ₁₇ l₁₇ 0) ∷ ‵ (fdies τ₁₇ l₁₇) ∷ ‵ (froom τ₁₆ l₁₆ 0) ∷ ‵ (fdies τ₁₆ l₁₆) ∷ ‵ (froom τ₁₅ l₁₅ 0) ∷ ‵ (fdies τ₁₅ l₁₅) ∷ ‵ (froom τ₁₄ l₁₄ 0) ∷ ‵ (fdies τ₁₄ l₁₄) ∷ ‵ (froom τ₁₃ l₁₃ 0) ∷ ‵ (fdies τ₁₃ l₁₃) ∷ ‵ (fat full_share τ₁₂ l₁₂ 0 (mach-f d)) ∷ ‵ (fdies τ₁₂ l₁₂) ∷ ‵ (froom τ₁₁ l₁₁ 0) ∷ ‵ (fdies τ₁₁ l₁₁) ∷ ‵ (froom τ₁₀ l₁₀ 0) ∷ ‵ (fdies τ₁₀ l₁₀) ∷ ‵ (froom τ₉ l₉ 0) ∷ ‵ (fdies τ₉ l₉) ∷ ‵ (froom τ₈ l₈ 0) ∷ ‵ (fdies τ₈ l₈) ∷ ‵ (froom τ₇ l₇ 0) ∷ ‵ (fdies τ₇ l₇) ∷ ‵ (froom τ₆ l₆ 0) ∷ ‵ (fdies τ₆ l₆) ∷ ‵ (fat full_share τ₅ l₅ 0 (vbool single)) ∷ ‵ (fdies τ₅ l₅) ∷ ‵ (fat full_share τ₄ l₄ 0 (vint w32 n)) ∷ ‵ (fdies τ₄ l₄) ∷ ‵ (fat full_share τ₃ l₃ 0 (sl₂)) ∷ ‵ (fdies τ₃ l₃) ∷ ‵ (fat full_share τ₂ l₂ 0 (sl₁)) ∷ ‵ (fdies τ₂ l₂) ∷ ‵ (fat full_share τ₁ l₁ 0 (vptr b o)) ∷ ‵ (fdies τ₁ l₁) ∷ ‵ (froom τ₀ l₀ 0) ∷ ‵ (fdies τ₀ l₀) ∷ []) (runs 𝓣.C 𝓣.Λ En b_16 (at_ret En Post))
       unfolding τ₁ τ₁₂
       closing g c made r ps ms rs gs e₁ l₁ₘ l₂ₘ d v is e =
@@ -492,9 +492,9 @@ module _ {M : Type 1} {𝓤 : Ura M} (𝓛 : Logic 𝓤) (at_mem : Memory → SP
           rewrite ! 0 (λ (u : Val). ‵ (fat full_share T'.mir b o u)) (sym (record_is (left h.delivery d ps))) refl $ use1 𝓛 (‵ (cell_at full_share (T.the_row).mir (record-value (left h.delivery d ps) ∷ []) b o)) (𝓛.laws.at_raw full_share T'.mir b o (record-value (left h.delivery d ps))) $ owned ! T.the_row (Is T.the_row) (LL.makes T.the_type T'.the_plain 𝓛) (left h.delivery d ps) _ (related d ps v g is gs) $
           move ! (1 ∷ 0 ∷ 2 ∷ 3 ∷ 4 ∷ []) $ closes ! tt T.the_row (left h.delivery d ps) (record-value (left h.delivery d ps) ∷ []) b o $ forget ! 17 refl $
           keep ! (0 ∷ 2 ∷ 3 ∷ 4 ∷ 5 ∷ 6 ∷ 7 ∷ 8 ∷ 9 ∷ 10 ∷ 11 ∷ 12 ∷ 13 ∷ 14 ∷ 15 ∷ 16 ∷ 17 ∷ 18 ∷ 19 ∷ 20 ∷ 21 ∷ 22 ∷ 23 ∷ 24 ∷ 25 ∷ 26 ∷ 27 ∷ 28 ∷ 29 ∷ 30 ∷ 31 ∷ 32 ∷ 33 ∷ 34 ∷ 35 ∷ 36 ∷ 37 ∷ 38 ∷ 39 ∷ 40 ∷ 41 ∷ 42 ∷ []) $
-          leaves d.answer (left h.delivery d ps) ms rs (answer-of d v is) (call-says h.a h.dbr h.ipr h.delivery h.prs y.now z.now c made single n r ps ms rs e₁ d e) l₁ₘ l₂ₘ
+          leaves d.answer (left h.delivery d ps) ms rs (answer-of d v is) (call_says h.a h.dbr h.ipr h.delivery h.prs y.now z.now c made single n r ps ms rs e₁ d e) l₁ₘ l₂ₘ
 
-      ends-ipr : Good h → (c : Core) → Core-from h.a h.dbr h.ipr c → (r : Answered) (ps ms : List ℕ) (rs : List Record) → Prs ps (array-value ps ∷ []) → Ran c r ps ms rs → length ms ≡ length y.now → length rs ≡ length z.now → (d : Fields) (v : Val) → Is F.the_row d (v ∷ []) → Fields-of r d
+      ends-ipr : Good h → (c : Core) → CoreFrom h.a h.dbr h.ipr c → (r : Answered) (ps ms : List ℕ) (rs : List Record) → Prs ps (array-value ps ∷ []) → Ran c r ps ms rs → length ms ≡ length y.now → length rs ≡ length z.now → (d : Fields) (v : Val) → Is F.the_row d (v ∷ []) → FieldsOf r d
           → Sq 𝓛 (‵ (fat full_share T'.mir b o (spelt-out d.a d.dbr h.ipr ps h.delivery)) ∷ ‵ (fobor κ q (Body (mem T.the_row) b o γ)) ∷ ‵ (fobs γ ((T.the_row).coded.code h)) ∷ ‵ (fauth γ ((T.the_row).coded.code h)) ∷ ‵ (flft κ₁ q₁) ∷ ‵ (flft κ₂ q₂) ∷ ‵ (finally u64 y.name ms) ∷ ‵ (finally R.the_row z.name rs) ∷ ‵ (froom τ₁₇ l₁₇ 0) ∷ ‵ (fdies τ₁₇ l₁₇) ∷ ‵ (froom τ₁₆ l₁₆ 0) ∷ ‵ (fdies τ₁₆ l₁₆) ∷ ‵ (froom τ₁₅ l₁₅ 0) ∷ ‵ (fdies τ₁₅ l₁₅) ∷ ‵ (froom τ₁₄ l₁₄ 0) ∷ ‵ (fdies τ₁₄ l₁₄) ∷ ‵ (froom τ₁₃ l₁₃ 0) ∷ ‵ (fdies τ₁₃ l₁₃) ∷ ‵ (fat full_share τ₁₂ l₁₂ 0 (mach-f d)) ∷ ‵ (fdies τ₁₂ l₁₂) ∷ ‵ (froom τ₁₁ l₁₁ 0) ∷ ‵ (fdies τ₁₁ l₁₁) ∷ ‵ (froom τ₁₀ l₁₀ 0) ∷ ‵ (fdies τ₁₀ l₁₀) ∷ ‵ (froom τ₉ l₉ 0) ∷ ‵ (fdies τ₉ l₉) ∷ ‵ (froom τ₈ l₈ 0) ∷ ‵ (fdies τ₈ l₈) ∷ ‵ (froom τ₇ l₇ 0) ∷ ‵ (fdies τ₇ l₇) ∷ ‵ (froom τ₆ l₆ 0) ∷ ‵ (fdies τ₆ l₆) ∷ ‵ (fat full_share τ₅ l₅ 0 (vbool single)) ∷ ‵ (fdies τ₅ l₅) ∷ ‵ (fat full_share τ₄ l₄ 0 (vint w32 n)) ∷ ‵ (fdies τ₄ l₄) ∷ ‵ (fat full_share τ₃ l₃ 0 (sl₂)) ∷ ‵ (fdies τ₃ l₃) ∷ ‵ (fat full_share τ₂ l₂ 0 (sl₁)) ∷ ‵ (fdies τ₂ l₂) ∷ ‵ (fat full_share τ₁ l₁ 0 (vptr b o)) ∷ ‵ (fdies τ₁ l₁) ∷ ‵ (froom τ₀ l₀ 0) ∷ ‵ (fdies τ₀ l₀) ∷ []) (runs 𝓣.C 𝓣.Λ En b_15 (at_ret En Post))
       unfolding τ₁ τ₁₂
       ends-ipr g c made r ps ms rs gs e₁ l₁ₘ l₂ₘ d v is e =
@@ -502,7 +502,7 @@ module _ {M : Type 1} {𝓤 : Ura M} (𝓛 : Logic 𝓤) (at_mem : Memory → SP
           keep ! (0 ∷ 1 ∷ 2 ∷ 3 ∷ 4 ∷ 5 ∷ 6 ∷ 7 ∷ 8 ∷ 9 ∷ 10 ∷ 11 ∷ 12 ∷ 13 ∷ 14 ∷ 15 ∷ 16 ∷ 17 ∷ 18 ∷ 19 ∷ 20 ∷ 21 ∷ 22 ∷ 23 ∷ 24 ∷ 25 ∷ 26 ∷ 27 ∷ 28 ∷ 29 ∷ 30 ∷ 31 ∷ 32 ∷ 33 ∷ 34 ∷ 35 ∷ 36 ∷ 37 ∷ 38 ∷ 39 ∷ 40 ∷ 41 ∷ 42 ∷ 43 ∷ []) $
           closing g c made r ps ms rs gs e₁ l₁ₘ l₂ₘ d v is e
 
-      ends-dbr : Good h → (c : Core) → Core-from h.a h.dbr h.ipr c → (r : Answered) (ps ms : List ℕ) (rs : List Record) → Prs ps (array-value ps ∷ []) → Ran c r ps ms rs → length ms ≡ length y.now → length rs ≡ length z.now → (d : Fields) (v : Val) → Is F.the_row d (v ∷ []) → Fields-of r d
+      ends-dbr : Good h → (c : Core) → CoreFrom h.a h.dbr h.ipr c → (r : Answered) (ps ms : List ℕ) (rs : List Record) → Prs ps (array-value ps ∷ []) → Ran c r ps ms rs → length ms ≡ length y.now → length rs ≡ length z.now → (d : Fields) (v : Val) → Is F.the_row d (v ∷ []) → FieldsOf r d
           → Sq 𝓛 (‵ (fat full_share T'.mir b o (spelt-out d.a h.dbr h.ipr ps h.delivery)) ∷ ‵ (fobor κ q (Body (mem T.the_row) b o γ)) ∷ ‵ (fobs γ ((T.the_row).coded.code h)) ∷ ‵ (fauth γ ((T.the_row).coded.code h)) ∷ ‵ (flft κ₁ q₁) ∷ ‵ (flft κ₂ q₂) ∷ ‵ (finally u64 y.name ms) ∷ ‵ (finally R.the_row z.name rs) ∷ ‵ (froom τ₁₇ l₁₇ 0) ∷ ‵ (fdies τ₁₇ l₁₇) ∷ ‵ (froom τ₁₆ l₁₆ 0) ∷ ‵ (fdies τ₁₆ l₁₆) ∷ ‵ (froom τ₁₅ l₁₅ 0) ∷ ‵ (fdies τ₁₅ l₁₅) ∷ ‵ (froom τ₁₄ l₁₄ 0) ∷ ‵ (fdies τ₁₄ l₁₄) ∷ ‵ (froom τ₁₃ l₁₃ 0) ∷ ‵ (fdies τ₁₃ l₁₃) ∷ ‵ (fat full_share τ₁₂ l₁₂ 0 (mach-f d)) ∷ ‵ (fdies τ₁₂ l₁₂) ∷ ‵ (froom τ₁₁ l₁₁ 0) ∷ ‵ (fdies τ₁₁ l₁₁) ∷ ‵ (froom τ₁₀ l₁₀ 0) ∷ ‵ (fdies τ₁₀ l₁₀) ∷ ‵ (froom τ₉ l₉ 0) ∷ ‵ (fdies τ₉ l₉) ∷ ‵ (froom τ₈ l₈ 0) ∷ ‵ (fdies τ₈ l₈) ∷ ‵ (froom τ₇ l₇ 0) ∷ ‵ (fdies τ₇ l₇) ∷ ‵ (froom τ₆ l₆ 0) ∷ ‵ (fdies τ₆ l₆) ∷ ‵ (fat full_share τ₅ l₅ 0 (vbool single)) ∷ ‵ (fdies τ₅ l₅) ∷ ‵ (fat full_share τ₄ l₄ 0 (vint w32 n)) ∷ ‵ (fdies τ₄ l₄) ∷ ‵ (fat full_share τ₃ l₃ 0 (sl₂)) ∷ ‵ (fdies τ₃ l₃) ∷ ‵ (fat full_share τ₂ l₂ 0 (sl₁)) ∷ ‵ (fdies τ₂ l₂) ∷ ‵ (fat full_share τ₁ l₁ 0 (vptr b o)) ∷ ‵ (fdies τ₁ l₁) ∷ ‵ (froom τ₀ l₀ 0) ∷ ‵ (fdies τ₀ l₀) ∷ []) (runs 𝓣.C 𝓣.Λ En b_14 (at_ret En Post))
       unfolding τ₁ τ₁₂
       ends-dbr g c made r ps ms rs gs e₁ l₁ₘ l₂ₘ d v is e =
@@ -510,7 +510,7 @@ module _ {M : Type 1} {𝓤 : Ura M} (𝓛 : Logic 𝓤) (at_mem : Memory → SP
           keep ! (0 ∷ 1 ∷ 2 ∷ 3 ∷ 4 ∷ 5 ∷ 6 ∷ 7 ∷ 8 ∷ 9 ∷ 10 ∷ 11 ∷ 12 ∷ 13 ∷ 14 ∷ 15 ∷ 16 ∷ 17 ∷ 18 ∷ 19 ∷ 20 ∷ 21 ∷ 22 ∷ 23 ∷ 24 ∷ 25 ∷ 26 ∷ 27 ∷ 28 ∷ 29 ∷ 30 ∷ 31 ∷ 32 ∷ 33 ∷ 34 ∷ 35 ∷ 36 ∷ 37 ∷ 38 ∷ 39 ∷ 40 ∷ 41 ∷ 42 ∷ 43 ∷ []) $
           ends-ipr g c made r ps ms rs gs e₁ l₁ₘ l₂ₘ d v is e
 
-      ends-a : Good h → (c : Core) → Core-from h.a h.dbr h.ipr c → (r : Answered) (ps ms : List ℕ) (rs : List Record) → Prs ps (array-value ps ∷ []) → Ran c r ps ms rs → length ms ≡ length y.now → length rs ≡ length z.now → (d : Fields) (v : Val) → Is F.the_row d (v ∷ []) → Fields-of r d
+      ends-a : Good h → (c : Core) → CoreFrom h.a h.dbr h.ipr c → (r : Answered) (ps ms : List ℕ) (rs : List Record) → Prs ps (array-value ps ∷ []) → Ran c r ps ms rs → length ms ≡ length y.now → length rs ≡ length z.now → (d : Fields) (v : Val) → Is F.the_row d (v ∷ []) → FieldsOf r d
           → Sq 𝓛 (‵ (fat full_share T'.mir b o (spelt-out h.a h.dbr h.ipr ps h.delivery)) ∷ ‵ (fobor κ q (Body (mem T.the_row) b o γ)) ∷ ‵ (fobs γ ((T.the_row).coded.code h)) ∷ ‵ (fauth γ ((T.the_row).coded.code h)) ∷ ‵ (flft κ₁ q₁) ∷ ‵ (flft κ₂ q₂) ∷ ‵ (finally u64 y.name ms) ∷ ‵ (finally R.the_row z.name rs) ∷ ‵ (froom τ₁₇ l₁₇ 0) ∷ ‵ (fdies τ₁₇ l₁₇) ∷ ‵ (froom τ₁₆ l₁₆ 0) ∷ ‵ (fdies τ₁₆ l₁₆) ∷ ‵ (froom τ₁₅ l₁₅ 0) ∷ ‵ (fdies τ₁₅ l₁₅) ∷ ‵ (froom τ₁₄ l₁₄ 0) ∷ ‵ (fdies τ₁₄ l₁₄) ∷ ‵ (froom τ₁₃ l₁₃ 0) ∷ ‵ (fdies τ₁₃ l₁₃) ∷ ‵ (fat full_share τ₁₂ l₁₂ 0 (mach-f d)) ∷ ‵ (fdies τ₁₂ l₁₂) ∷ ‵ (froom τ₁₁ l₁₁ 0) ∷ ‵ (fdies τ₁₁ l₁₁) ∷ ‵ (froom τ₁₀ l₁₀ 0) ∷ ‵ (fdies τ₁₀ l₁₀) ∷ ‵ (froom τ₉ l₉ 0) ∷ ‵ (fdies τ₉ l₉) ∷ ‵ (froom τ₈ l₈ 0) ∷ ‵ (fdies τ₈ l₈) ∷ ‵ (froom τ₇ l₇ 0) ∷ ‵ (fdies τ₇ l₇) ∷ ‵ (froom τ₆ l₆ 0) ∷ ‵ (fdies τ₆ l₆) ∷ ‵ (fat full_share τ₅ l₅ 0 (vbool single)) ∷ ‵ (fdies τ₅ l₅) ∷ ‵ (fat full_share τ₄ l₄ 0 (vint w32 n)) ∷ ‵ (fdies τ₄ l₄) ∷ ‵ (fat full_share τ₃ l₃ 0 (sl₂)) ∷ ‵ (fdies τ₃ l₃) ∷ ‵ (fat full_share τ₂ l₂ 0 (sl₁)) ∷ ‵ (fdies τ₂ l₂) ∷ ‵ (fat full_share τ₁ l₁ 0 (vptr b o)) ∷ ‵ (fdies τ₁ l₁) ∷ ‵ (froom τ₀ l₀ 0) ∷ ‵ (fdies τ₀ l₀) ∷ []) (runs 𝓣.C 𝓣.Λ En b_13 (at_ret En Post))
       unfolding τ₁ τ₁₂
       ends-a g c made r ps ms rs gs e₁ l₁ₘ l₂ₘ d v is e =
@@ -519,20 +519,20 @@ module _ {M : Type 1} {𝓤 : Ura M} (𝓛 : Logic 𝓤) (at_mem : Memory → SP
           ends-dbr g c made r ps ms rs gs e₁ l₁ₘ l₂ₘ d v is e
 
       -- the third: the answer's fields
-      stores : Good h → (c : Core) → Core-from h.a h.dbr h.ipr c → (r : Answered) → Fits-x r → (ps ms : List ℕ) (rs : List Record) → Prs ps (array-value ps ∷ []) → Ran c r ps ms rs → length ms ≡ length y.now → length rs ≡ length z.now
+      stores : Good h → (c : Core) → CoreFrom h.a h.dbr h.ipr c → (r : Answered) → Fits-x r → (ps ms : List ℕ) (rs : List Record) → Prs ps (array-value ps ∷ []) → Ran c r ps ms rs → length ms ≡ length y.now → length rs ≡ length z.now
           → Sq 𝓛 (‵ (fat full_share T'.mir b o (spelt-out h.a h.dbr h.ipr ps h.delivery)) ∷ ‵ (fobor κ q (Body (mem T.the_row) b o γ)) ∷ ‵ (fobs γ ((T.the_row).coded.code h)) ∷ ‵ (fauth γ ((T.the_row).coded.code h)) ∷ ‵ (flft κ₁ q₁) ∷ ‵ (flft κ₂ q₂) ∷ ‵ (finally u64 y.name ms) ∷ ‵ (finally R.the_row z.name rs) ∷ ‵ (froom τ₁₇ l₁₇ 0) ∷ ‵ (fdies τ₁₇ l₁₇) ∷ ‵ (froom τ₁₆ l₁₆ 0) ∷ ‵ (fdies τ₁₆ l₁₆) ∷ ‵ (froom τ₁₅ l₁₅ 0) ∷ ‵ (fdies τ₁₅ l₁₅) ∷ ‵ (froom τ₁₄ l₁₄ 0) ∷ ‵ (fdies τ₁₄ l₁₄) ∷ ‵ (froom τ₁₃ l₁₃ 0) ∷ ‵ (fdies τ₁₃ l₁₃) ∷ ‵ (froom τ₁₂ l₁₂ 0) ∷ ‵ (fdies τ₁₂ l₁₂) ∷ ‵ (fat full_share τ₁₁ l₁₁ 0 (mach-x r)) ∷ ‵ (fdies τ₁₁ l₁₁) ∷ ‵ (froom τ₁₀ l₁₀ 0) ∷ ‵ (fdies τ₁₀ l₁₀) ∷ ‵ (froom τ₉ l₉ 0) ∷ ‵ (fdies τ₉ l₉) ∷ ‵ (froom τ₈ l₈ 0) ∷ ‵ (fdies τ₈ l₈) ∷ ‵ (froom τ₇ l₇ 0) ∷ ‵ (fdies τ₇ l₇) ∷ ‵ (froom τ₆ l₆ 0) ∷ ‵ (fdies τ₆ l₆) ∷ ‵ (fat full_share τ₅ l₅ 0 (vbool single)) ∷ ‵ (fdies τ₅ l₅) ∷ ‵ (fat full_share τ₄ l₄ 0 (vint w32 n)) ∷ ‵ (fdies τ₄ l₄) ∷ ‵ (fat full_share τ₃ l₃ 0 (sl₂)) ∷ ‵ (fdies τ₃ l₃) ∷ ‵ (fat full_share τ₂ l₂ 0 (sl₁)) ∷ ‵ (fdies τ₂ l₂) ∷ ‵ (fat full_share τ₁ l₁ 0 (vptr b o)) ∷ ‵ (fdies τ₁ l₁) ∷ ‵ (froom τ₀ l₀ 0) ∷ ‵ (fdies τ₀ l₀) ∷ []) (runs 𝓣.C 𝓣.Λ En b_12 (at_ret En Post))
       stores g c made r gr ps ms rs gs e₁ l₁ₘ l₂ₘ =
-          use0 𝓛 (raw ((FieldsOf 𝓛 at_mem run).pre (to_fields r))) (goes-fields r gr (can-field h.a h.dbr h.ipr h.delivery h.prs y.now z.now c made single n r ps ms rs e₁)) $
-          calls_at ! (fm_of 𝓤 H 𝓛.laws 𝓣) (FieldsOf 𝓛 at_mem run) known-fields (to_fields r) (and_then ! (load ! (from ! (stop !)) (look ! 21 refl)) (no_more !)) (λ v.
+          use0 𝓛 (raw ((FieldsOf 𝓛 at_mem run).pre (to_fields r))) (goes-fields r gr (can_field h.a h.dbr h.ipr h.delivery h.prs y.now z.now c made single n r ps ms rs e₁)) $
+          calls_at ! (fm_of 𝓤 H 𝓛.laws 𝓣) (FieldsOf 𝓛 at_mem run) known_fields (to_fields r) (and_then ! (load ! (from ! (stop !)) (look ! 21 refl)) (no_more !)) (λ v.
           use1 𝓛 (later (some (λ (d : Fields). (‵ ftrue ⊛ ‵ ((F.the_row).own_val d (v ∷ []))) ⊛ raw (ensured 𝓛 fields.ended (fields.clauses 𝓛 at_mem run) tt (r, tt) tt d)))) (id⊢ 𝓤 _) $ await ! tt $ pick ! (λ d.
-          split ! $ move ! (1 ∷ []) $ use1 𝓛 (raw (fact 𝓤 (Fields-of r d))) (of_fields r d) $ heard ! (Fields-of r d) (λ e. split ! $ drop ! $
+          split ! $ move ! (1 ∷ []) $ use1 𝓛 (raw (fact 𝓤 (FieldsOf r d))) (of_fields r d) $ heard ! (FieldsOf r d) (λ e. split ! $ drop ! $
           peeks ! F.the_row (Is F.the_row) (shows 𝓛 F.the_row) d (v ∷ []) (λ is.
           land ! (from ! (stop !)) (init ! 19 refl (lands-f d v is)) $ rewrite ! 19 (λ (u : Val). ‵ (fat full_share τ₁₂ l₁₂ 0 u)) (tells-f d v is) refl $ forget ! 21 refl $
           keep ! (1 ∷ 2 ∷ 3 ∷ 4 ∷ 5 ∷ 6 ∷ 7 ∷ 8 ∷ 9 ∷ 10 ∷ 11 ∷ 12 ∷ 13 ∷ 14 ∷ 15 ∷ 16 ∷ 17 ∷ 18 ∷ 19 ∷ 20 ∷ 21 ∷ 22 ∷ 23 ∷ 24 ∷ 25 ∷ 26 ∷ 27 ∷ 28 ∷ 29 ∷ 30 ∷ 31 ∷ 32 ∷ 33 ∷ 34 ∷ 35 ∷ 36 ∷ 37 ∷ 38 ∷ 39 ∷ 40 ∷ 41 ∷ 42 ∷ 43 ∷ 44 ∷ []) $
           ends-a g c made r ps ms rs gs e₁ l₁ₘ l₂ₘ d v is e))))
 
       -- the second: the run
-      runs-it : Good h → (c : Core) → Fits-c c → Core-from h.a h.dbr h.ipr c
+      runs-it : Good h → (c : Core) → Fits-c c → CoreFrom h.a h.dbr h.ipr c
           → Sq 𝓛 (‵ (fat full_share T'.mir b o (spelt-out h.a h.dbr h.ipr h.prs h.delivery)) ∷ ‵ (fobor κ q (Body (mem T.the_row) b o γ)) ∷ ‵ (fobs γ ((T.the_row).coded.code h)) ∷ ‵ (fauth γ ((T.the_row).coded.code h)) ∷ ‵ (flft κ₁ q₁) ∷ ‵ (flft κ₂ q₂) ∷ ‵ ((MutSlice (named 1) κ₁ u64).own_val y (sl₁ ∷ [])) ∷ ‵ ((MutSlice (named 2) κ₂ R.the_row).own_val z (sl₂ ∷ [])) ∷ ‵ (froom τ₁₇ l₁₇ 0) ∷ ‵ (fdies τ₁₇ l₁₇) ∷ ‵ (froom τ₁₆ l₁₆ 0) ∷ ‵ (fdies τ₁₆ l₁₆) ∷ ‵ (froom τ₁₅ l₁₅ 0) ∷ ‵ (fdies τ₁₅ l₁₅) ∷ ‵ (froom τ₁₄ l₁₄ 0) ∷ ‵ (fdies τ₁₄ l₁₄) ∷ ‵ (froom τ₁₃ l₁₃ 0) ∷ ‵ (fdies τ₁₃ l₁₃) ∷ ‵ (froom τ₁₂ l₁₂ 0) ∷ ‵ (fdies τ₁₂ l₁₂) ∷ ‵ (froom τ₁₁ l₁₁ 0) ∷ ‵ (fdies τ₁₁ l₁₁) ∷ ‵ (fat full_share τ₁₀ l₁₀ 0 (mach-c c)) ∷ ‵ (fdies τ₁₀ l₁₀) ∷ ‵ (fat full_share τ₉ l₉ 0 (delivery-value h.delivery)) ∷ ‵ (fdies τ₉ l₉) ∷ ‵ (froom τ₈ l₈ 0) ∷ ‵ (fdies τ₈ l₈) ∷ ‵ (froom τ₇ l₇ 0) ∷ ‵ (fdies τ₇ l₇) ∷ ‵ (froom τ₆ l₆ 0) ∷ ‵ (fdies τ₆ l₆) ∷ ‵ (fat full_share τ₅ l₅ 0 (vbool single)) ∷ ‵ (fdies τ₅ l₅) ∷ ‵ (fat full_share τ₄ l₄ 0 (vint w32 n)) ∷ ‵ (fdies τ₄ l₄) ∷ ‵ (fat full_share τ₃ l₃ 0 (sl₂)) ∷ ‵ (fdies τ₃ l₃) ∷ ‵ (fat full_share τ₂ l₂ 0 (sl₁)) ∷ ‵ (fdies τ₂ l₂) ∷ ‵ (fat full_share τ₁ l₁ 0 (vptr b o)) ∷ ‵ (fdies τ₁ l₁) ∷ ‵ (froom τ₀ l₀ 0) ∷ ‵ (fdies τ₀ l₀) ∷ []) (runs 𝓣.C 𝓣.Λ En b_6 (at_ret En Post))
       unfolding τ₁ τ₂ τ₃ τ₁₃ τ₁₄ τ₁₅ τ₁₆ τ₁₇
       runs-it g c gc made =
@@ -546,7 +546,7 @@ module _ {M : Type 1} {𝓤 : Ura M} (𝓛 : Logic 𝓤) (at_mem : Memory → SP
           use2 𝓛 (later (some (λ (δ : GName). ‵ ((MutRef (named 1) (ν ∷ []) (Array u16 24)).own_val (prs δ) (mut_vals (prs δ))) ⊛ Rest 𝓛 u16 24 in_place (ν ∷ []) δ))) (lends_part 𝓛 u16 24 in_place (ν ∷ []) (named 1) h.prs) $ await ! tt $ pick ! (λ δ. split ! $
           nothing ! $ move ! (7 ∷ 0 ∷ []) $ join ! $ move ! (3 ∷ 0 ∷ []) $ join ! $ move ! (6 ∷ 0 ∷ []) $ join ! $ move ! (1 ∷ 6 ∷ []) $ join ! $ move ! (1 ∷ 6 ∷ 0 ∷ []) $
           use3 𝓛 (raw ((Run 𝓛 at_mem run).pre (to-run (ν ∷ []) δ c))) (goes-run (ν ∷ []) δ c g gc fits) $
-          calls_at ! (fm_of 𝓤 H 𝓛.laws 𝓣) (Run 𝓛 at_mem run) known-run (to-run (ν ∷ []) δ c) (and_then ! (load ! (from ! (stop !)) (look ! 11 refl)) (and_then ! (load ! (from ! (stop !)) (look ! 9 refl)) (and_then ! (load ! (from ! (stop !)) (look ! 5 refl)) (and_then ! (load ! (from ! (stop !)) (look ! 19 refl)) (and_then ! (load ! (from ! (stop !)) (look ! 21 refl)) (and_then ! (load ! (from ! (stop !)) (look ! 31 refl)) (and_then ! (load ! (from ! (stop !)) (look ! 29 refl)) (no_more !)))))))) (λ v.
+          calls_at ! (fm_of 𝓤 H 𝓛.laws 𝓣) (Run 𝓛 at_mem run) known_run (to-run (ν ∷ []) δ c) (and_then ! (load ! (from ! (stop !)) (look ! 11 refl)) (and_then ! (load ! (from ! (stop !)) (look ! 9 refl)) (and_then ! (load ! (from ! (stop !)) (look ! 5 refl)) (and_then ! (load ! (from ! (stop !)) (look ! 19 refl)) (and_then ! (load ! (from ! (stop !)) (look ! 21 refl)) (and_then ! (load ! (from ! (stop !)) (look ! 31 refl)) (and_then ! (load ! (from ! (stop !)) (look ! 29 refl)) (no_more !)))))))) (λ v.
           use1 𝓛 (later (some (λ (r : Answered). ((‵ (flft κ₂ q₂) ⊛ ‵ (flft (ν ∷ []) full_share) ⊛ ‵ (flft κ₁ q₁) ⊛ ‵ ftrue) ⊛ ‵ ((S.the_row).own_val r (v ∷ []))) ⊛ raw (ensured 𝓛 ran.ended (ran.clauses 𝓛 at_mem run) (κ₂, (ν ∷ [], (κ₁, tt))) (to-run (ν ∷ []) δ c).0.3 tt r)))) (id⊢ 𝓤 _) $ await ! tt $ pick ! (λ r.
           split ! $ move ! (1 ∷ []) $ use1 𝓛 (some (λ (zs : Lasts ran.ended (κ₂, (ν ∷ [], (κ₁, tt))) (to-run (ν ∷ []) δ c).0.3). ‵ (lasts ran.ended (κ₂, (ν ∷ [], (κ₁, tt))) (to-run (ν ∷ []) δ c).0.3 zs) ⊛ raw (fact 𝓤 (Ran c r zs.1.0 zs.1.1.0 zs.0)))) (id⊢ 𝓤 _) $ pick ! (λ zs.
           split ! $ move ! (1 ∷ []) $ heard ! (Ran c r zs.1.0 zs.1.1.0 zs.0) (λ e. fsplit ! $ fsplit ! $ move ! (1 ∷ []) $ feq_l ! (λ k₂. move ! (1 ∷ []) $ fsplit ! $ move ! (1 ∷ []) $ fsplit ! $
@@ -554,7 +554,7 @@ module _ {M : Type 1} {𝓤 : Ura M} (𝓛 : Logic 𝓤) (at_mem : Memory → SP
           land ! (from ! (stop !)) (init ! 22 refl (lands_x r v is)) $ rewrite ! 22 (λ (u : Val). ‵ (fat full_share τ₁₁ l₁₁ 0 u)) (tells-x r v is) refl $
           -- the lifetime is ended, and the array is put back
           move ! (1 ∷ []) $ split ! $ move ! (1 ∷ []) $ split ! $ lft_end ! tt $ move ! (1 ∷ []) $ split ! $ move ! (2 ∷ 9 ∷ 7 ∷ []) $
-          use3 𝓛 (later (‵ (fat full_share T'.mir b o (spelt-out h.a h.dbr h.ipr zs.1.0 h.delivery)) ⊛ ‵ ((Array u16 24).own_val zs.1.0 (array-value zs.1.0 ∷ [])))) (comes-part 𝓛 u16 24 in_place (ν ∷ []) δ zs.1.0 (array-value zs.1.0) (array_tells zs.1.0)) $ await ! tt $ split ! $
+          use3 𝓛 (later (‵ (fat full_share T'.mir b o (spelt-out h.a h.dbr h.ipr zs.1.0 h.delivery)) ⊛ ‵ ((Array u16 24).own_val zs.1.0 (array-value zs.1.0 ∷ [])))) (comes_part 𝓛 u16 24 in_place (ν ∷ []) δ zs.1.0 (array-value zs.1.0) (array_tells zs.1.0)) $ await ! tt $ split ! $
           move ! (1 ∷ []) $ peeks ! (Array u16 24) Prs (shows 𝓛 (Array u16 24)) zs.1.0 (array-value zs.1.0 ∷ []) (λ gs. forget ! 28 refl $ forget ! 26 refl $ forget ! 20 refl $ forget ! 18 refl $
           forget ! 16 refl $ forget ! 14 refl $ forget ! 12 refl $
           keep ! (1 ∷ 9 ∷ 10 ∷ 11 ∷ 2 ∷ 4 ∷ 6 ∷ 8 ∷ 12 ∷ 13 ∷ 14 ∷ 15 ∷ 16 ∷ 17 ∷ 18 ∷ 19 ∷ 20 ∷ 21 ∷ 22 ∷ 23 ∷ 24 ∷ 25 ∷ 26 ∷ 27 ∷ 28 ∷ 29 ∷ 30 ∷ 31 ∷ 32 ∷ 33 ∷ 34 ∷ 35 ∷ 36 ∷ 37 ∷ 38 ∷ 39 ∷ 40 ∷ 41 ∷ 42 ∷ 43 ∷ 44 ∷ 45 ∷ 46 ∷ 47 ∷ []) $
@@ -569,9 +569,9 @@ module _ {M : Type 1} {𝓤 : Ura M} (𝓛 : Logic 𝓤) (at_mem : Memory → SP
           assigns ! (of_opd ! (load ! (from ! (hop ! (look ! 40 refl) (fld ! ipr-at (stop !)))) (look_in ! 0 (sub ! 2 refl (whole !))))) (from ! (stop !)) (init ! 26 refl (typed-ipr h.ipr (ipr-is h g))) $
           assigns ! (of_opd ! (load ! (from ! (hop ! (look ! 40 refl) (fld ! delivery-at (stop !)))) (look_in ! 0 (sub ! 4 refl (whole !))))) (from ! (stop !)) (init ! 24 refl (typed-delivery h.delivery (delivery-is h g))) $
           use0 𝓛 (raw ((CoreFrom 𝓛 at_mem run).pre (to-core))) (goes-core g) $
-          calls_at ! (fm_of 𝓤 H 𝓛.laws 𝓣) (CoreFrom 𝓛 at_mem run) known-core (to-core) (and_then ! (load ! (from ! (stop !)) (look ! 31 refl)) (and_then ! (load ! (from ! (stop !)) (look ! 29 refl)) (and_then ! (load ! (from ! (stop !)) (look ! 27 refl)) (no_more !)))) (λ v.
+          calls_at ! (fm_of 𝓤 H 𝓛.laws 𝓣) (CoreFrom 𝓛 at_mem run) known_core (to-core) (and_then ! (load ! (from ! (stop !)) (look ! 31 refl)) (and_then ! (load ! (from ! (stop !)) (look ! 29 refl)) (and_then ! (load ! (from ! (stop !)) (look ! 27 refl)) (no_more !)))) (λ v.
           use1 𝓛 (later (some (λ (c : Core). (‵ ftrue ⊛ ‵ ((C.the_row).own_val c (v ∷ []))) ⊛ raw (ensured 𝓛 core.ended (core.clauses 𝓛 at_mem run) tt (h.a, (h.dbr, (h.ipr, tt))) tt c)))) (id⊢ 𝓤 _) $ await ! tt $ pick ! (λ c.
-          split ! $ move ! (1 ∷ []) $ use1 𝓛 (raw (fact 𝓤 (Core-from h.a h.dbr h.ipr c))) (of-core c) $ heard ! (Core-from h.a h.dbr h.ipr c) (λ e. split ! $ drop ! $
+          split ! $ move ! (1 ∷ []) $ use1 𝓛 (raw (fact 𝓤 (CoreFrom h.a h.dbr h.ipr c))) (of-core c) $ heard ! (CoreFrom h.a h.dbr h.ipr c) (λ e. split ! $ drop ! $
           peeks ! C.the_row (Is C.the_row) (shows 𝓛 C.the_row) c (v ∷ []) (λ is.
           land ! (from ! (stop !)) (init ! 23 refl (lands-c c v is)) $ rewrite ! 23 (λ (u : Val). ‵ (fat full_share τ₁₀ l₁₀ 0 u)) (tells-c c v is) refl $ forget ! 31 refl $ forget ! 29 refl $ forget ! 27 refl $
           keep ! (1 ∷ 2 ∷ 3 ∷ 4 ∷ 5 ∷ 6 ∷ 7 ∷ 8 ∷ 9 ∷ 10 ∷ 11 ∷ 12 ∷ 13 ∷ 14 ∷ 15 ∷ 16 ∷ 17 ∷ 18 ∷ 19 ∷ 20 ∷ 21 ∷ 22 ∷ 23 ∷ 24 ∷ 25 ∷ 26 ∷ 27 ∷ 28 ∷ 29 ∷ 30 ∷ 31 ∷ 32 ∷ 33 ∷ 34 ∷ 35 ∷ 36 ∷ 37 ∷ 38 ∷ 39 ∷ 40 ∷ 41 ∷ 42 ∷ 43 ∷ 44 ∷ []) $
@@ -599,16 +599,16 @@ module _ {M : Type 1} {𝓤 : Ura M} (𝓛 : Logic 𝓤) (at_mem : Memory → SP
 
 call-meets : {M : Type 1} {𝓤 : Ura M} (𝓛 : Logic 𝓤) → (at_mem : Memory → SProp 𝓤) (run : Routine → Fun 𝓤) (𝓣 : Tables 𝓤 𝓛.H) → Triple 𝓤 (𝓣.C #own·core-from) (CoreFrom 𝓛 at_mem run) → Triple 𝓤 (𝓣.C #own·run) (Run 𝓛 at_mem run) → Triple 𝓤 (𝓣.C #own·fields-of) (FieldsOf 𝓛 at_mem run)
     → Triple 𝓤 (WpFn 𝓤 𝓛.H 𝓣.C 𝓣.Λ code.function) (Own 𝓛 at_mem run)
-call-meets {𝓤 = 𝓤} 𝓛 at_mem run 𝓣 known-core known-run known-fields ((κs, qs, bounds, a, vss), g) = via 𝓤 _ (fst∗ 𝓤 _ (emp 𝓤))
+call-meets {𝓤 = 𝓤} 𝓛 at_mem run 𝓣 known_core known_run known_fields ((κs, qs, bounds, a, vss), g) = via 𝓤 _ (fst∗ 𝓤 _ (emp 𝓤))
     (said 𝓛 f.signature κs qs (mut_vals, (mut_slice_vals, (mut_slice_vals, (uint_vals w32, (bool_vals, tt))))) (mut_Tells (named 0) κs.0 T.the_row, (mut_slice_Tells (named 1) κs.1.0 u64, (mut_slice_Tells (named 2) κs.1.1.0 R.the_row, (uint_Tells w32, (bool_Tells, tt))))) a
     (λ us. WpFn 𝓤 𝓛.H 𝓣.C 𝓣.Λ code.function (flat (types_at (f.signature).params κs) us) ((Own 𝓛 at_mem run).post ((κs, qs, bounds, a, us), g))) vss
-    (λ are. walk 𝓛 at_mem run κs.0 κs.1.0 κs.1.1.0 qs.0 qs.1.0 qs.1.1.0 a.0.ref_ptr.0 a.0.ref_ptr.1 a.0.ghost_name a.0.now a.1.0 a.1.1.0 a.1.1.1.0 a.1.1.1.1.0 𝓣 known-core known-run known-fields are.1.0.0.1 are.1.1.0.0.1 are.1.1.1.0.1))
+    (λ are. walk 𝓛 at_mem run κs.0 κs.1.0 κs.1.1.0 qs.0 qs.1.0 qs.1.1.0 a.0.ref_ptr.0 a.0.ref_ptr.1 a.0.ghost_name a.0.now a.1.0 a.1.1.0 a.1.1.1.0 a.1.1.1.1.0 𝓣 known_core known_run known_fields are.1.0.0.1 are.1.1.0.0.1 are.1.1.1.0.1))
 
 pub call-spec : {M : Type 1} → stated.statement M
 unfolding code.routine tables_of
 call-spec 𝓤 𝓛 𝓜 𝓡 =
     entered 𝓤 𝓛.H (Own 𝓛 𝓜.mem 𝓡.run) (tables 𝓤 𝓛.H 𝓜 𝓡 code.env).C (tables 𝓤 𝓛.H 𝓜 𝓡 code.env).Λ #own·call code.function (code.unfolded 𝓤 𝓛.H 𝓜 𝓡)
     (call-meets 𝓛 𝓜.mem 𝓡.run (tables_of 𝓤 𝓛.H 𝓜 (tables 𝓤 𝓛.H 𝓜 𝓡 code.env))
-    (cited 𝓤 𝓛.H (CoreFrom 𝓛 𝓜.mem 𝓡.run) 𝓜 𝓡 code.env #own·core-from core-symbol.routine code.calls-kuzhlemor-close::core-from (core-met.met 𝓤 𝓛 𝓜 𝓡))
-    (cited 𝓤 𝓛.H (Run 𝓛 𝓜.mem 𝓡.run) 𝓜 𝓡 code.env #own·run ran-symbol.routine code.calls-kuzhlemor-close::run (ran-met.met 𝓤 𝓛 𝓜 𝓡))
-    (cited 𝓤 𝓛.H (FieldsOf 𝓛 𝓜.mem 𝓡.run) 𝓜 𝓡 code.env #own·fields-of fields-symbol.routine code.calls-kuzhlemor-close::fields-of (fields-met.met 𝓤 𝓛 𝓜 𝓡)))
+    (cited 𝓤 𝓛.H (CoreFrom 𝓛 𝓜.mem 𝓡.run) 𝓜 𝓡 code.env #own·core-from core_symbol.routine code.calls-kuzhlemor-close::core-from (core_met.met 𝓤 𝓛 𝓜 𝓡))
+    (cited 𝓤 𝓛.H (Run 𝓛 𝓜.mem 𝓡.run) 𝓜 𝓡 code.env #own·run ran_symbol.routine code.calls-kuzhlemor-close::run (ran_met.met 𝓤 𝓛 𝓜 𝓡))
+    (cited 𝓤 𝓛.H (FieldsOf 𝓛 𝓜.mem 𝓡.run) 𝓜 𝓡 code.env #own·fields-of fields_symbol.routine code.calls-kuzhlemor-close::fields-of (fields_met.met 𝓤 𝓛 𝓜 𝓡)))

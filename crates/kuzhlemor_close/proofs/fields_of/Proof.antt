@@ -1,5 +1,5 @@
 -- `fields_of` meets its contract. Assumes nothing.
-use Rattle.kuzhlemor_close.proofs.RunLaws.{fields-law}
+use Rattle.kuzhlemor_close.proofs.RunLaws.{fields_law}
 use borrow.Author.Rules.{rules}
 use Rattle.kuzhlemor_close.proofs.fields_of.Statement.{statement}
 use Rattle.kuzhlemor_close.proofs.fields_of.Tie as tie
@@ -23,7 +23,7 @@ from-core-requires-2 : tie.Need-from-core-requires-2
 from-core-requires-2 c κs = search rules
 
 returns : tie.Need-returns
-returns c = search (rules, fields-law)
+returns c = search (rules, fields_law)
 
 pub fields-of-spec : {M : Type 1} → statement M
 fields-of-spec = tie.close (tie.spec cast-t2 cast-t3 cast-t4 from-core-requires from-base-requires from-core-requires-2 returns)

@@ -37,7 +37,7 @@ use denote.Triple.Call.{calls_at}
 use denote.Triple.Clauses.{at_exit, ensured, lasts, Lasts}
 use denote.Triple.Table.{entered, cited}
 use denote.Triple.Walked.{says}
-use Rattle.kuzhlemor_close.specs.Entry.{Close-says}
+use Rattle.kuzhlemor_close.specs.Entry.{CloseSays}
 use Rattle.host.specs.declared.record.Registers.{Registers}
 use Rattle.entry.specs.declared.Answer.{Answer}
 use Rattle.lookup.specs.declared.Record.{Record}
@@ -93,7 +93,7 @@ module _ {M : Type 1} {𝓤 : Ura M} (𝓛 : Logic 𝓤) (at_mem : Memory → SP
 
   told : (r : Answer) → ent 𝓤 (Ran r) (Stepped r)
   told r =
-      let Says : Lasts callee.ended κs (x, (y, (z, (1, (true, tt))))) → Type 0 = λ zs. Close-says true 1 x.now y.now z.now r zs.0 zs.1.0 zs.1.1.0 in
+      let Says : Lasts callee.ended κs (x, (y, (z, (1, (true, tt))))) → Type 0 = λ zs. CloseSays true 1 x.now y.now z.now r zs.0 zs.1.0 zs.1.1.0 in
       qed 𝓛 (raw (Ran r) ∷ []) ∵ use1 𝓛 (some (λ (zs : Lasts callee.ended κs (x, (y, (z, (1, (true, tt)))))). ‵ (lasts callee.ended κs (x, (y, (z, (1, (true, tt))))) zs) ⊛ raw (fact 𝓤 (Says zs)))) (id⊢ 𝓤 _) $ pick ! (λ zs. split ! $ move ! (1 ∷ []) $ heard ! (Says zs) (λ e.
       show ! (λ (ws : Lasts f.ended κs (x, (y, (z, tt)))). sep 𝓤 (sem 𝓛 (lasts f.ended κs (x, (y, (z, tt))) ws)) ((f.clauses 𝓛 at_mem run κs (x, (y, (z, tt)))).ensures tt r (at_exit f.ended κs (x, (y, (z, tt))) ws))) (zs.0, (zs.1.0, (zs.1.1.0, tt))) $ says ! e $
       -- [the record's last value, the memory's, the records', …]
@@ -129,4 +129,4 @@ unfolding code.routine tables_of
 kuzhlemor-step-close-spec 𝓤 𝓛 𝓜 𝓡 =
     entered 𝓤 𝓛.H (Own 𝓛 𝓜.mem 𝓡.run) (tables 𝓤 𝓛.H 𝓜 𝓡 code.env).C (tables 𝓤 𝓛.H 𝓜 𝓡 code.env).Λ #own·kuzhlemor-step-close code.function (code.unfolded 𝓤 𝓛.H 𝓜 𝓡)
     (kuzhlemor-step-close-meets 𝓛 𝓜.mem 𝓡.run (tables_of 𝓤 𝓛.H 𝓜 (tables 𝓤 𝓛.H 𝓜 𝓡 code.env))
-    (cited 𝓤 𝓛.H (Callee 𝓛 𝓜.mem 𝓡.run) 𝓜 𝓡 code.env #own·call callee-symbol.routine code.calls-kuzhlemor-close::call (Callee-met.met 𝓤 𝓛 𝓜 𝓡)))
+    (cited 𝓤 𝓛.H (Callee 𝓛 𝓜.mem 𝓡.run) 𝓜 𝓡 code.env #own·call callee_symbol.routine code.calls-kuzhlemor-close::call (Callee_met.met 𝓤 𝓛 𝓜 𝓡)))

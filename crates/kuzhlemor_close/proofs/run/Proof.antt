@@ -9,7 +9,7 @@ use lib.Dec.{T as Holds, eqb, lit<}
 use borrow.Author.Tests.{eqb-true, eq-eqb}
 use seplogic.Ra.Ura.{Ura}
 use seplogic.Ra.TreeShare.{full_share}
-use mir.Syntax.{Ty, named, w8, w16, w32, w64, ty_unit, ty_array, ty_int, Body as MirBody, seq, assign, place, deref, field, rv_opd, copy, int, op2, ne, addr_of, aggregate, return, skip, cond as mir-if, call as mir-call}
+use mir.Syntax.{Ty, named, w8, w16, w32, w64, ty_unit, ty_array, ty_int, Body as MirBody, seq, assign, place, deref, field, rv_opd, copy, int, op2, ne, addr_of, aggregate, return, skip, cond as mir_if, call as mir_call}
 use mir.Val.{Val, WT, has_ty, vint, vbool, vptr, vunit}
 use base.Logic.{SProp, ent, emp, via, ex_e, fst∗, snd∗, id⊢}
 use base.Fml.{Fml, Lft, GName, Share, ftrue, fat, froom, fdies, flft}
@@ -31,7 +31,7 @@ use denote.Plain.{uint_vals, uint_Tells, uint_Makes, uint_Lawful, bool_vals, boo
 use denote.Builtin.{u8, u16, u32, u64, usize, bool, unit, ArrayOf}
 use denote.Ref.{Bor, MutBor, MutRef, ShrRef, mut_vals, mut_Tells}
 use denote.Array.{Array}
-use denote.Lend.{LentAgain as LentRef, lends_again as lends-ref-again, comes_back as comes-ref-back}
+use denote.Lend.{LentAgain as LentRef, lends_again as lends_ref_again, comes_back as comes_ref_back}
 use denote.Slice.{slice_val, MutSlice, ShrSlice, Room, mut_slice_vals, mut_slice_Tells}
 use denote.Signature.{plain}
 use denote.Steps.{only, owned, nothing, heard, peeks}
@@ -44,24 +44,24 @@ use denote.Triple.Clauses.{ensured, lasts, Lasts}
 use denote.Triple.Table.{entered, cited}
 use denote.Triple.Walked.{says, Stays, stay_slice, stay_ref, stay_none, walk_of, Goes-slice, Goes-ref, Goes-none, AllGo, Walks, ends_at, walked, walk_Meets}
 use denote.Exit.{yes}
-use Rattle.model.specs.Questions.{ask, start-questions}
+use Rattle.model.specs.Questions.{ask, start_questions}
 use Rattle.lookup.specs.Lookup.{in_order}
 use Rattle.lookup.specs.declared.Record.{Record}
-use Rattle.lookup.proofs.Again.{LentAgain, lends-at, back_at}
+use Rattle.lookup.proofs.Again.{LentAgain, lends_at, back_at}
 use Rattle.lookup.proofs.Parts.{ty_at}
-use Rattle.state.specs.View.{as-machine, as-delivery, as-pointers}
-use Rattle.state.specs.Reply.{Reply-within}
+use Rattle.state.specs.View.{as_machine, as_delivery, as_pointers}
+use Rattle.state.specs.Reply.{ReplyWithin}
 use Rattle.state.specs.declared.Core.{Core}
 use Rattle.state.specs.declared.Delivery.{Delivery}
 use Rattle.state.specs.declared.reply.Reply.TheVariants as Reply
-use Rattle.answers.specs.Answer.{Answers-with}
+use Rattle.answers.specs.Answer.{AnswersWith}
 use Rattle.answers.specs.declared.Answered.{Answered}
 use Rattle.pending.specs.declared.Pending.{Pending}
 use Rattle.pending.specs.Left.{Begins}
 use Rattle.driver.specs.Drive.{Stands, Drives}
-use Rattle.kuzhlemor_close.specs.Entry.{Runs-close}
-use Rattle.kuzhlemor_close.proofs.RunLaws.{run-refuses, run-stands, can-finish, run-runs}
-use Rattle.kuzhlemor_close.proofs.Shared.{KeptRef, KeptSlice, shares-ref, ref-again, shares-slice, slice-again}
+use Rattle.kuzhlemor_close.specs.Entry.{RunsClose}
+use Rattle.kuzhlemor_close.proofs.RunLaws.{run_refuses, run_stands, can_finish, run_runs}
+use Rattle.kuzhlemor_close.proofs.Shared.{KeptRef, KeptSlice, shares_ref, ref_again, shares_slice, slice_again}
 use Rattle.lookup.specs.contracts.Record as T
 use Rattle.lookup.proofs.Record.TheLaws as T'
 use Rattle.state.specs.contracts.Core as C
@@ -260,7 +260,7 @@ abbrev b-19 : MirBody
 b-19 = return
 
 abbrev b-18 : MirBody
-b-18 = seq (mir-call #own·finished (copy (place 10 []) ∷ copy (place 7 []) ∷ []) (place 0 [])) b-19
+b-18 = seq (mir_call #own·finished (copy (place 10 []) ∷ copy (place 7 []) ∷ []) (place 0 [])) b-19
 
 abbrev b_12 : MirBody
 b_12 =
@@ -269,21 +269,21 @@ b_12 =
     seq (assign (place 21 []) (addr_of (place 2 (deref (ty_array (ty_int w16) 24) ∷ [])))) (
     seq (assign (place 22 []) (addr_of (place 3 (field 0 ∷ deref (ty_int w64) ∷ [])))) (
     seq (assign (place 23 []) (aggregate (copy (place 22 []) ∷ copy (place 3 (field 1 ∷ [])) ∷ []))) (
-    seq (mir-call #driver·drive (copy (place 20 []) ∷ copy (place 21 []) ∷ copy (place 23 []) ∷ copy (place 5 []) ∷ copy (place 6 []) ∷ copy (place 9 []) ∷ []) (place 10 [])) b-18)))))
+    seq (mir_call #driver·drive (copy (place 20 []) ∷ copy (place 21 []) ∷ copy (place 23 []) ∷ copy (place 5 []) ∷ copy (place 6 []) ∷ copy (place 9 []) ∷ []) (place 10 [])) b-18)))))
 
 abbrev b_11 : MirBody
-b_11 = seq (mir-call #pending·begin (copy (place 5 []) ∷ copy (place 4 []) ∷ int w32 0 ∷ int w64 0 ∷ copy (place 6 []) ∷ []) (place 9 [])) b_12
+b_11 = seq (mir_call #pending·begin (copy (place 5 []) ∷ copy (place 4 []) ∷ int w32 0 ∷ int w64 0 ∷ copy (place 6 []) ∷ []) (place 9 [])) b_12
 
 abbrev b_8 : MirBody
 b_8 =
     seq (assign (place 17 []) (addr_of (place 1 (field 0 ∷ deref rec ∷ [])))) (
     seq (assign (place 18 []) (aggregate (copy (place 17 []) ∷ copy (place 1 (field 1 ∷ [])) ∷ []))) (
-    seq (mir-call #lookup·order (copy (place 18 []) ∷ []) (place 16 [])) b_11))
+    seq (mir_call #lookup·order (copy (place 18 []) ∷ []) (place 16 [])) b_11))
 
 abbrev b_6 : MirBody
 b_6 =
     seq (assign (place 15 []) (op2 ne (copy (place 8 [])) (int w8 0))) (
-    seq (mir-if (copy (place 15 [])) (seq (mir-call #own·refused (copy (place 8 []) ∷ copy (place 4 []) ∷ []) (place 0 [])) return) skip) b_8)
+    seq (mir_if (copy (place 15 [])) (seq (mir_call #own·refused (copy (place 8 []) ∷ copy (place 4 []) ∷ []) (place 0 [])) return) skip) b_8)
 
 abbrev b_1 : MirBody
 b_1 =
@@ -291,7 +291,7 @@ b_1 =
     seq (assign (place 12 []) (addr_of (place 2 (deref (ty_array (ty_int w16) 24) ∷ [])))) (
     seq (assign (place 13 []) (addr_of (place 3 (field 0 ∷ deref (ty_int w64) ∷ [])))) (
     seq (assign (place 14 []) (aggregate (copy (place 13 []) ∷ copy (place 3 (field 1 ∷ [])) ∷ []))) (
-    seq (mir-call #own·first-no (copy (place 11 []) ∷ copy (place 5 []) ∷ copy (place 4 []) ∷ copy (place 12 []) ∷ copy (place 14 []) ∷ []) (place 8 [])) b_6))))
+    seq (mir_call #own·first-no (copy (place 11 []) ∷ copy (place 5 []) ∷ copy (place 4 []) ∷ copy (place 12 []) ∷ copy (place 14 []) ∷ []) (place 8 [])) b_6))))
 
 same_body : pieces.t-1 ≡ b_1
 unfolding rec
@@ -300,7 +300,7 @@ same_body = refl
 module _ {M : Type 1} {𝓤 : Ura M} (𝓛 : Logic 𝓤) (at_mem : Memory → SProp 𝓤) (run : Routine → Fun 𝓤) where
   -- the contracts that the proof cites
   abbrev First : Contract 𝓤
-  First = triple_of 𝓛 first-no.signature (first-no.spec 𝓛 at_mem run)
+  First = triple_of 𝓛 first_no.signature (first_no.spec 𝓛 at_mem run)
 
   abbrev Refused : Contract 𝓤
   Refused = triple_of 𝓛 refused.signature (refused.spec 𝓛 at_mem run)
@@ -390,13 +390,13 @@ module _ {M : Type 1} {𝓤 : Ura M} (𝓛 : Logic 𝓤) (at_mem : Memory → SP
 
   -- what is said: of the first no, of a driven run, and at the end
   abbrev First-no : ℕ → Type 0
-  First-no k = k ≡ ask (eqb n₀ 16) 63 (start-questions (as-delivery del) (as-machine c ps₀ m₀))
+  First-no k = k ≡ ask (eqb n₀ 16) 63 (start_questions (as_delivery del) (as_machine c ps₀ m₀))
 
   abbrev Driven : List Record → Pending → Pending → List Record → List ℕ → List ℕ → Type 0
-  Driven hs₁ x y hs ps m = Drives del bud x hs₁ (as-pointers ps₀) m₀ y hs (as-pointers ps) m
+  Driven hs₁ x y hs ps m = Drives del bud x hs₁ (as_pointers ps₀) m₀ y hs (as_pointers ps) m
 
   abbrev Ran : Answered → List Record → List ℕ → List ℕ → Type 0
-  Ran r hs ps m = Runs-close (as-delivery del) single bud c ps₀ m₀ hs₀ r ps m hs
+  Ran r hs ps m = RunsClose (as_delivery del) single bud c ps₀ m₀ hs₀ r ps m hs
 
   exits : (r : Answered) (hs : List Record) (ps m : List ℕ) → Fits-x r → length hs ≡ n₀ → length m ≡ n₂ → Ran r hs ps m → ent 𝓤 (⋆ 𝓛 (‵ (recs hs) ∷ ‵ (flft κ₀ q₀) ∷ ‵ (prs ps) ∷ ‵ (flft κ₁ q₁) ∷ ‵ (mems m) ∷ ‵ (flft κ₂ q₂) ∷ [])) (Post (mach-x r))
   exits r hs ps m g lh lm e =
@@ -419,8 +419,8 @@ module _ {M : Type 1} {𝓤 : Ura M} (𝓛 : Logic 𝓤) (at_mem : Memory → SP
       move ! (3 ∷ 0 ∷ []) $ fjoin ! $ move ! (2 ∷ 0 ∷ []) $ fjoin ! $ owned ! C.the_row (Is C.the_row) (LL.makes C.the_type CL.the_plain 𝓛) c _ gc $ fjoin ! $ owned ! D.the_row (Is D.the_row) (LL.makes D.the_type D'.the_plain 𝓛) del _ gdel $ fjoin ! $
       owned ! usize (Is usize) (uint_Makes 𝓛 w64) n₀ _ (refl, room₀.0) $ fjoin ! $ move ! (1 ∷ 0 ∷ []) $ join ! $ frame ! $ done !
 
-  of-first : (λ₁ λ₂ : Lft) (δ ε : GName) (k : ℕ) → ent 𝓤 (ensured 𝓛 first-no.ended (first-no.clauses 𝓛 at_mem run) (λ₁, (λ₂, tt)) (n₀, (del, (c, (x₁ δ ps₀, (x₂ ε m₀, tt))))) tt k) (fact 𝓤 (First-no k))
-  of-first λ₁ λ₂ δ ε k = ex_e 𝓤 _ (λ ws. snd∗ 𝓤 (sem 𝓛 (lasts first-no.ended (λ₁, (λ₂, tt)) (n₀, (del, (c, (x₁ δ ps₀, (x₂ ε m₀, tt))))) ws)) (fact 𝓤 (First-no k)))
+  of-first : (λ₁ λ₂ : Lft) (δ ε : GName) (k : ℕ) → ent 𝓤 (ensured 𝓛 first_no.ended (first_no.clauses 𝓛 at_mem run) (λ₁, (λ₂, tt)) (n₀, (del, (c, (x₁ δ ps₀, (x₂ ε m₀, tt))))) tt k) (fact 𝓤 (First-no k))
+  of-first λ₁ λ₂ δ ε k = ex_e 𝓤 _ (λ ws. snd∗ 𝓤 (sem 𝓛 (lasts first_no.ended (λ₁, (λ₂, tt)) (n₀, (del, (c, (x₁ δ ps₀, (x₂ ε m₀, tt))))) ws)) (fact 𝓤 (First-no k)))
 
   abbrev to-refused : ℕ → (Refused 𝓛 at_mem run).Ghost
   to-refused k = ((tt, tt, tt, (k, (c, tt)), (vint w8 k ∷ [], (mach-c c ∷ [], tt))), tt)
@@ -428,8 +428,8 @@ module _ {M : Type 1} {𝓤 : Ura M} (𝓛 : Logic 𝓤) (at_mem : Memory → SP
   goes-refused : (k : ℕ) → k < 2 ^ 8 → ent 𝓤 (emp 𝓤) ((Refused 𝓛 at_mem run).pre (to-refused k))
   goes-refused k gk = qed 𝓛 [] ∵ nothing ! $ owned ! C.the_row (Is C.the_row) (LL.makes C.the_type CL.the_plain 𝓛) c _ gc $ fjoin ! $ owned ! u8 (Is u8) (uint_Makes 𝓛 w8) k _ (refl, gk) $ fjoin ! $ nothing ! $ join ! $ frame ! $ done !
 
-  of-refused : (k : ℕ) (r : Answered) → ent 𝓤 (ensured 𝓛 refused.ended (refused.clauses 𝓛 at_mem run) tt (k, (c, tt)) tt r) (fact 𝓤 (Answers-with (Reply.Refused k) c 0 r))
-  of-refused k r = ex_e 𝓤 _ (λ ws. snd∗ 𝓤 (sem 𝓛 (lasts refused.ended tt (k, (c, tt)) ws)) (fact 𝓤 (Answers-with (Reply.Refused k) c 0 r)))
+  of-refused : (k : ℕ) (r : Answered) → ent 𝓤 (ensured 𝓛 refused.ended (refused.clauses 𝓛 at_mem run) tt (k, (c, tt)) tt r) (fact 𝓤 (AnswersWith (Reply.Refused k) c 0 r))
+  of-refused k r = ex_e 𝓤 _ (λ ws. snd∗ 𝓤 (sem 𝓛 (lasts refused.ended tt (k, (c, tt)) ws)) (fact 𝓤 (AnswersWith (Reply.Refused k) c 0 r)))
 
   abbrev to-order : Lft → GName → (Order 𝓛 at_mem run).Ghost
   to-order λ' δ = (((λ', tt), (full_share, tt), tt, (x₀ δ hs₀, tt), (sl ∷ [], tt)), tt)
@@ -452,7 +452,7 @@ module _ {M : Type 1} {𝓤 : Ura M} (𝓛 : Logic 𝓤) (at_mem : Memory → SP
   abbrev to-drive : List Record → Lfts 3 → GName → GName → GName → Pending → (Drive 𝓛 at_mem run).Ghost
   to-drive hs₁ λs δ₀ δ₁ δ₂ x = ((λs, (full_share, (full_share, (full_share, tt))), tt, (x₀ δ₀ hs₁, (x₁ δ₁ ps₀, (x₂ δ₂ m₀, (del, (bud, (x, tt)))))), (sl ∷ [], (vptr b₁ o₁ ∷ [], (sl₂ ∷ [], (mach-v del ∷ [], (vint w32 bud ∷ [], (mach x ∷ [], tt))))))), tt)
 
-  goes-drive : (hs₁ : List Record) (λs : Lfts 3) (δ₀ δ₁ δ₂ : GName) (x : Pending) → Fits x → Stands del bud x hs₁ (as-pointers ps₀) m₀
+  goes-drive : (hs₁ : List Record) (λs : Lfts 3) (δ₀ δ₁ δ₂ : GName) (x : Pending) → Fits x → Stands del bud x hs₁ (as_pointers ps₀) m₀
       → ent 𝓤 (⋆ 𝓛 ((‵ (flft λs.0 full_share) ⊛ ‵ (flft λs.1.0 full_share) ⊛ ‵ (flft λs.1.1.0 full_share) ⊛ ‵ ftrue) ∷ ‵ ((MutSlice (named 0) λs.0 T.the_row).own_val (x₀ δ₀ hs₁) (sl ∷ [])) ∷ (‵ ((MutRef (named 1) λs.1.0 (Array u16 24)).own_val (x₁ δ₁ ps₀) (vptr b₁ o₁ ∷ [])) ⊛ ‵ ((MutSlice (named 2) λs.1.1.0 u64).own_val (x₂ δ₂ m₀) (sl₂ ∷ []))) ∷ [])) ((Drive 𝓛 at_mem run).pre (to-drive hs₁ λs δ₀ δ₁ δ₂ x))
   goes-drive hs₁ λs δ₀ δ₁ δ₂ x g stands =
       qed 𝓛 ((‵ (flft λs.0 full_share) ⊛ ‵ (flft λs.1.0 full_share) ⊛ ‵ (flft λs.1.1.0 full_share) ⊛ ‵ ftrue) ∷ ‵ ((MutSlice (named 0) λs.0 T.the_row).own_val (x₀ δ₀ hs₁) (sl ∷ [])) ∷ (‵ ((MutRef (named 1) λs.1.0 (Array u16 24)).own_val (x₁ δ₁ ps₀) (vptr b₁ o₁ ∷ [])) ⊛ ‵ ((MutSlice (named 2) λs.1.1.0 u64).own_val (x₂ δ₂ m₀) (sl₂ ∷ []))) ∷ []) ∵ says ! stands $
@@ -463,14 +463,14 @@ module _ {M : Type 1} {𝓤 : Ura M} (𝓛 : Logic 𝓤) (at_mem : Memory → SP
   abbrev to-finished : Pending → (Finished 𝓛 at_mem run).Ghost
   to-finished y = ((tt, tt, tt, (y, (single, tt)), (mach y ∷ [], (vbool single ∷ [], tt))), tt)
 
-  goes-finished : (y : Pending) → Fits y → Reply-within y.reply × (y.total + y.read < 2 ^ 64) → ent 𝓤 (emp 𝓤) ((Finished 𝓛 at_mem run).pre (to-finished y))
+  goes-finished : (y : Pending) → Fits y → ReplyWithin y.reply × (y.total + y.read < 2 ^ 64) → ent 𝓤 (emp 𝓤) ((Finished 𝓛 at_mem run).pre (to-finished y))
   goes-finished y g can = qed 𝓛 [] ∵ says ! can $ nothing ! $ owned ! bool (Is bool) (bool_Makes 𝓛) single _ refl $ fjoin ! $ owned ! P.the_row (Is P.the_row) (LL.makes P.the_type P'.the_plain 𝓛) y _ g $ fjoin ! $ nothing ! $ done !
 
-  of-finished : (y : Pending) (r : Answered) → ent 𝓤 (ensured 𝓛 finished.ended (finished.clauses 𝓛 at_mem run) tt (y, (single, tt)) tt r) (fact 𝓤 (Answers-with y.reply y.core (cond single (y.total + y.read) y.total) r))
-  of-finished y r = ex_e 𝓤 _ (λ ws. snd∗ 𝓤 (sem 𝓛 (lasts finished.ended tt (y, (single, tt)) ws)) (fact 𝓤 (Answers-with y.reply y.core (cond single (y.total + y.read) y.total) r)))
+  of-finished : (y : Pending) (r : Answered) → ent 𝓤 (ensured 𝓛 finished.ended (finished.clauses 𝓛 at_mem run) tt (y, (single, tt)) tt r) (fact 𝓤 (AnswersWith y.reply y.core (cond single (y.total + y.read) y.total) r))
+  of-finished y r = ex_e 𝓤 _ (λ ws. snd∗ 𝓤 (sem 𝓛 (lasts finished.ended tt (y, (single, tt)) ws)) (fact 𝓤 (AnswersWith y.reply y.core (cond single (y.total + y.read) y.total) r)))
 
-  module _ (C' : Calls 𝓤 H) (Λ : Loops 𝓤 H) (fm : FmC 𝓤 H 𝓛.laws C') (known-first : Triple 𝓤 (C' #own·first-no) (First 𝓛 at_mem run)) (known-refused : Triple 𝓤 (C' #own·refused) (Refused 𝓛 at_mem run)) (known-order : Triple 𝓤 (C' #lookup·order) (Order 𝓛 at_mem run)) (known-begin : Triple 𝓤 (C' #pending·begin) (Begin 𝓛 at_mem run))
-      (known-drive : Triple 𝓤 (C' #driver·drive) (Drive 𝓛 at_mem run)) (known-finished : Triple 𝓤 (C' #own·finished) (Finished 𝓛 at_mem run)) where
+  module _ (C' : Calls 𝓤 H) (Λ : Loops 𝓤 H) (fm : FmC 𝓤 H 𝓛.laws C') (known_first : Triple 𝓤 (C' #own·first-no) (First 𝓛 at_mem run)) (known_refused : Triple 𝓤 (C' #own·refused) (Refused 𝓛 at_mem run)) (known_order : Triple 𝓤 (C' #lookup·order) (Order 𝓛 at_mem run)) (known_begin : Triple 𝓤 (C' #pending·begin) (Begin 𝓛 at_mem run))
+      (known_drive : Triple 𝓤 (C' #driver·drive) (Drive 𝓛 at_mem run)) (known_finished : Triple 𝓤 (C' #own·finished) (Finished 𝓛 at_mem run)) where
     module _ (l₀ l₁ l₂ l₃ l₄ l₅ l₆ l₇ l₈ l₉ l₁₀ l₁₁ l₁₂ l₁₃ l₁₄ l₁₅ l₁₆ l₁₇ l₁₈ l₁₉ l₂₀ l₂₁ l₂₂ l₂₃ : ℕ) where
       abbrev En : Env 𝓤 H
       En = (τ₀, l₀) ∷ (τ₁, l₁) ∷ (τ₂, l₂) ∷ (τ₃, l₃) ∷ (τ₄, l₄) ∷ (τ₅, l₅) ∷ (τ₆, l₆) ∷ (τ₇, l₇) ∷ (τ₈, l₈) ∷ (τ₉, l₉) ∷ (τ₁₀, l₁₀) ∷ (τ₁₁, l₁₁) ∷ (τ₁₂, l₁₂) ∷ (τ₁₃, l₁₃) ∷ (τ₁₄, l₁₄) ∷ (τ₁₅, l₁₅) ∷ (τ₁₆, l₁₆) ∷ (τ₁₇, l₁₇) ∷ (τ₁₈, l₁₈) ∷ (τ₁₉, l₁₉) ∷ (τ₂₀, l₂₀) ∷ (τ₂₁, l₂₁) ∷ (τ₂₂, l₂₂) ∷ (τ₂₃, l₂₃) ∷ []
@@ -490,14 +490,14 @@ module _ {M : Type 1} {𝓤 : Ura M} (𝓛 : Logic 𝓤) (at_mem : Memory → SP
       finishes : (k : ℕ) (ek : First-no k) (yes : k ≡ 0) (hs₁ : List Record) (eh : hs₁ ≡ in_order hs₀) (x : Pending) (ex : Begins del c 0 0 bud x) (y : Pending) (hs : List Record) (ps m : List ℕ) → Fits y → length hs ≡ n₀ → length m ≡ n₂ → Driven hs₁ x y hs ps m
           → Sq 𝓛 (‵ (recs hs) ∷ ‵ (flft κ₀ q₀) ∷ ‵ (prs ps) ∷ ‵ (flft κ₁ q₁) ∷ ‵ (mems m) ∷ ‵ (flft κ₂ q₂) ∷ ‵ (froom τ₂₃ l₂₃ 0) ∷ ‵ (fdies τ₂₃ l₂₃) ∷ ‵ (froom τ₂₂ l₂₂ 0) ∷ ‵ (fdies τ₂₂ l₂₂) ∷ ‵ (froom τ₂₁ l₂₁ 0) ∷ ‵ (fdies τ₂₁ l₂₁) ∷ ‵ (froom τ₂₀ l₂₀ 0) ∷ ‵ (fdies τ₂₀ l₂₀) ∷ ‵ (froom τ₁₉ l₁₉ 0) ∷ ‵ (fdies τ₁₉ l₁₉) ∷ ‵ (froom τ₁₈ l₁₈ 0) ∷ ‵ (fdies τ₁₈ l₁₈) ∷ ‵ (froom τ₁₇ l₁₇ 0) ∷ ‵ (fdies τ₁₇ l₁₇) ∷ ‵ (froom τ₁₆ l₁₆ 0) ∷ ‵ (fdies τ₁₆ l₁₆) ∷ ‵ (froom τ₁₅ l₁₅ 0) ∷ ‵ (fdies τ₁₅ l₁₅) ∷ ‵ (froom τ₁₄ l₁₄ 0) ∷ ‵ (fdies τ₁₄ l₁₄) ∷ ‵ (froom τ₁₃ l₁₃ 0) ∷ ‵ (fdies τ₁₃ l₁₃) ∷ ‵ (froom τ₁₂ l₁₂ 0) ∷ ‵ (fdies τ₁₂ l₁₂) ∷ ‵ (froom τ₁₁ l₁₁ 0) ∷ ‵ (fdies τ₁₁ l₁₁) ∷ ‵ (fat full_share τ₁₀ l₁₀ 0 (mach y)) ∷ ‵ (fdies τ₁₀ l₁₀) ∷ ‵ (froom τ₉ l₉ 0) ∷ ‵ (fdies τ₉ l₉) ∷ ‵ (froom τ₈ l₈ 0) ∷ ‵ (fdies τ₈ l₈) ∷ ‵ (fat full_share τ₇ l₇ 0 (vbool single)) ∷ ‵ (fdies τ₇ l₇) ∷ ‵ (fat full_share τ₆ l₆ 0 (vint w32 bud)) ∷ ‵ (fdies τ₆ l₆) ∷ ‵ (fat full_share τ₅ l₅ 0 (mach-v del)) ∷ ‵ (fdies τ₅ l₅) ∷ ‵ (fat full_share τ₄ l₄ 0 (mach-c c)) ∷ ‵ (fdies τ₄ l₄) ∷ ‵ (fat full_share τ₃ l₃ 0 (sl₂)) ∷ ‵ (fdies τ₃ l₃) ∷ ‵ (fat full_share τ₂ l₂ 0 (vptr b₁ o₁)) ∷ ‵ (fdies τ₂ l₂) ∷ ‵ (fat full_share τ₁ l₁ 0 (sl)) ∷ ‵ (fdies τ₁ l₁) ∷ ‵ (froom τ₀ l₀ 0) ∷ ‵ (fdies τ₀ l₀) ∷ []) (runs C' Λ En b-18 (at_ret En Post))
       finishes k ek yes hs₁ eh x ex y hs ps m g lh lm drives =
-          use0 𝓛 (raw ((Finished 𝓛 at_mem run).pre (to-finished y))) (goes-finished y g (can-finish del c ps₀ m₀ hs₀ k ek yes hs₁ eh bud x ex y hs ps m drives (count_of y g))) $
-          calls_at ! fm (Finished 𝓛 at_mem run) known-finished (to-finished y) (and_then ! (load ! (from ! (stop !)) (look ! 33 refl)) (and_then ! (load ! (from ! (stop !)) (look ! 39 refl)) (no_more !))) (λ v.
+          use0 𝓛 (raw ((Finished 𝓛 at_mem run).pre (to-finished y))) (goes-finished y g (can_finish del c ps₀ m₀ hs₀ k ek yes hs₁ eh bud x ex y hs ps m drives (count_of y g))) $
+          calls_at ! fm (Finished 𝓛 at_mem run) known_finished (to-finished y) (and_then ! (load ! (from ! (stop !)) (look ! 33 refl)) (and_then ! (load ! (from ! (stop !)) (look ! 39 refl)) (no_more !))) (λ v.
           use1 𝓛 (later (some (λ (r : Answered). ((‵ ftrue) ⊛ ‵ ((X.the_row).own_val r (v ∷ []))) ⊛ raw (ensured 𝓛 finished.ended (finished.clauses 𝓛 at_mem run) tt (y, (single, tt)) tt r)))) (id⊢ 𝓤 _) $ await ! tt $ pick ! (λ r.
-          split ! $ move ! (1 ∷ []) $ use1 𝓛 (raw (fact 𝓤 (Answers-with y.reply y.core (cond single (y.total + y.read) y.total) r))) (of-finished y r) $ heard ! (Answers-with y.reply y.core (cond single (y.total + y.read) y.total) r) (λ e. split ! $
+          split ! $ move ! (1 ∷ []) $ use1 𝓛 (raw (fact 𝓤 (AnswersWith y.reply y.core (cond single (y.total + y.read) y.total) r))) (of-finished y r) $ heard ! (AnswersWith y.reply y.core (cond single (y.total + y.read) y.total) r) (λ e. split ! $
           move ! (1 ∷ []) $ peeks ! X.the_row (Is X.the_row) (shows 𝓛 X.the_row) r (v ∷ []) (λ is.
           land ! (from ! (stop !)) (init ! 54 refl (lands_x r v is)) $ rewrite ! 54 (λ (u : Val). ‵ (fat full_share τ₀ l₀ 0 u)) (tells-x r v is) refl $ forget ! 34 refl $
           keep ! (2 ∷ 3 ∷ 4 ∷ 5 ∷ 6 ∷ 7 ∷ 8 ∷ 9 ∷ 10 ∷ 11 ∷ 12 ∷ 13 ∷ 14 ∷ 15 ∷ 16 ∷ 17 ∷ 18 ∷ 19 ∷ 20 ∷ 21 ∷ 22 ∷ 23 ∷ 24 ∷ 25 ∷ 26 ∷ 27 ∷ 28 ∷ 29 ∷ 30 ∷ 31 ∷ 32 ∷ 33 ∷ 34 ∷ 35 ∷ 36 ∷ 37 ∷ 38 ∷ 39 ∷ 40 ∷ 41 ∷ 42 ∷ 43 ∷ 44 ∷ 45 ∷ 46 ∷ 47 ∷ 48 ∷ 49 ∷ 50 ∷ 51 ∷ 52 ∷ 53 ∷ 54 ∷ 55 ∷ []) $
-          leaves r hs ps m (told-x r v is) lh lm (run-runs del c ps₀ m₀ hs₀ k ek yes hs₁ eh bud x ex y hs ps m drives single r e)))))
+          leaves r hs ps m (told-x r v is) lh lm (run_runs del c ps₀ m₀ hs₀ k ek yes hs₁ eh bud x ex y hs ps m drives single r e)))))
 
       -- the driver
       drives : (k : ℕ) (ek : First-no k) (yes : k ≡ 0) (hs₁ : List Record) (eh : hs₁ ≡ in_order hs₀) → length hs₁ ≡ n₀ → (x : Pending) → Fits x → Begins del c 0 0 bud x
@@ -510,14 +510,14 @@ module _ {M : Type 1} {𝓤 : Ura M} (𝓛 : Logic 𝓤) (at_mem : Memory → SP
           assigns ! (addr ! (from ! (fld ! refl (hop ! (look_in ! 46 (sub ! 0 refl (whole !))) (stop !))))) (from ! (stop !)) (init ! 8 refl (tt, tt)) $
           assigns ! (agg ! (and_then ! (load ! (from ! (stop !)) (look ! 8 refl)) (and_then ! (load ! (from ! (fld ! refl (stop !))) (look_in ! 46 (sub ! 1 refl (whole !)))) (no_more !)))) (from ! (stop !)) (init ! 6 refl (tt, (tt, (record { fits = room₂.0 }, tt)))) $
           lft_new ! tt (λ ν₀. move ! (1 ∷ 2 ∷ []) $
-          use2 𝓛 (later (some (λ (δ₀ : GName). ‵ ((MutSlice (named 0) (ν₀ ∷ []) T.the_row).own_val (x₀ δ₀ hs₁) (sl ∷ [])) ⊛ ‵ (LentAgain T.the_row κ₀ (ν₀ ∷ []) q₀ γ₀ b₀ o₀ δ₀ hs₁)))) (lends-at T.the_row κ₀ (ν₀ ∷ []) q₀ γ₀ b₀ o₀ 𝓛 (named 0) (named 0) hs₁ n₀ lh) $ await ! tt $ pick ! (λ δ₀. split ! $
+          use2 𝓛 (later (some (λ (δ₀ : GName). ‵ ((MutSlice (named 0) (ν₀ ∷ []) T.the_row).own_val (x₀ δ₀ hs₁) (sl ∷ [])) ⊛ ‵ (LentAgain T.the_row κ₀ (ν₀ ∷ []) q₀ γ₀ b₀ o₀ δ₀ hs₁)))) (lends_at T.the_row κ₀ (ν₀ ∷ []) q₀ γ₀ b₀ o₀ 𝓛 (named 0) (named 0) hs₁ n₀ lh) $ await ! tt $ pick ! (λ δ₀. split ! $
           lft_new ! tt (λ ν₁. move ! (4 ∷ 5 ∷ []) $
-          use2 𝓛 (later (some (λ (δ₁ : GName). ‵ ((MutRef (named 1) (ν₁ ∷ []) (Array u16 24)).own_val (x₁ δ₁ ps₀) (vptr b₁ o₁ ∷ [])) ⊛ ‵ (LentRef (Array u16 24) κ₁ (ν₁ ∷ []) q₁ γ₁ b₁ o₁ δ₁ ps₀)))) (lends-ref-again 𝓛 (Array u16 24) (named 1) κ₁ (ν₁ ∷ []) q₁ γ₁ b₁ o₁ (named 1) ps₀) $ await ! tt $ pick ! (λ δ₁. split ! $
+          use2 𝓛 (later (some (λ (δ₁ : GName). ‵ ((MutRef (named 1) (ν₁ ∷ []) (Array u16 24)).own_val (x₁ δ₁ ps₀) (vptr b₁ o₁ ∷ [])) ⊛ ‵ (LentRef (Array u16 24) κ₁ (ν₁ ∷ []) q₁ γ₁ b₁ o₁ δ₁ ps₀)))) (lends_ref_again 𝓛 (Array u16 24) (named 1) κ₁ (ν₁ ∷ []) q₁ γ₁ b₁ o₁ (named 1) ps₀) $ await ! tt $ pick ! (λ δ₁. split ! $
           lft_new ! tt (λ ν₂. move ! (7 ∷ 8 ∷ []) $
-          use2 𝓛 (later (some (λ (δ₂ : GName). ‵ ((MutSlice (named 2) (ν₂ ∷ []) u64).own_val (x₂ δ₂ m₀) (sl₂ ∷ [])) ⊛ ‵ (LentAgain u64 κ₂ (ν₂ ∷ []) q₂ γ₂ b₂ o₂ δ₂ m₀)))) (lends-at u64 κ₂ (ν₂ ∷ []) q₂ γ₂ b₂ o₂ 𝓛 (named 2) (named 2) m₀ n₂ refl) $ await ! tt $ pick ! (λ δ₂. split ! $
+          use2 𝓛 (later (some (λ (δ₂ : GName). ‵ ((MutSlice (named 2) (ν₂ ∷ []) u64).own_val (x₂ δ₂ m₀) (sl₂ ∷ [])) ⊛ ‵ (LentAgain u64 κ₂ (ν₂ ∷ []) q₂ γ₂ b₂ o₂ δ₂ m₀)))) (lends_at u64 κ₂ (ν₂ ∷ []) q₂ γ₂ b₂ o₂ 𝓛 (named 2) (named 2) m₀ n₂ refl) $ await ! tt $ pick ! (λ δ₂. split ! $
           nothing ! $ move ! (3 ∷ 0 ∷ []) $ join ! $ move ! (5 ∷ 0 ∷ []) $ join ! $ move ! (7 ∷ 0 ∷ []) $ join ! $ move ! (3 ∷ 1 ∷ []) $ join ! $ move ! (1 ∷ 4 ∷ 0 ∷ []) $
-          use3 𝓛 (raw ((Drive 𝓛 at_mem run).pre (to-drive hs₁ (ν₀ ∷ [], (ν₁ ∷ [], (ν₂ ∷ [], tt))) δ₀ δ₁ δ₂ x))) (goes-drive hs₁ (ν₀ ∷ [], (ν₁ ∷ [], (ν₂ ∷ [], tt))) δ₀ δ₁ δ₂ x g (run-stands del c ps₀ m₀ hs₀ k ek yes hs₁ eh bud x ex)) $
-          calls_at ! fm (Drive 𝓛 at_mem run) known-drive (to-drive hs₁ (ν₀ ∷ [], (ν₁ ∷ [], (ν₂ ∷ [], tt))) δ₀ δ₁ δ₂ x) (and_then ! (load ! (from ! (stop !)) (look ! 10 refl)) (and_then ! (load ! (from ! (stop !)) (look ! 8 refl)) (and_then ! (load ! (from ! (stop !)) (look ! 4 refl)) (and_then ! (load ! (from ! (stop !)) (look ! 40 refl)) (and_then ! (load ! (from ! (stop !)) (look ! 38 refl)) (and_then ! (load ! (from ! (stop !)) (look ! 32 refl)) (no_more !))))))) (λ v.
+          use3 𝓛 (raw ((Drive 𝓛 at_mem run).pre (to-drive hs₁ (ν₀ ∷ [], (ν₁ ∷ [], (ν₂ ∷ [], tt))) δ₀ δ₁ δ₂ x))) (goes-drive hs₁ (ν₀ ∷ [], (ν₁ ∷ [], (ν₂ ∷ [], tt))) δ₀ δ₁ δ₂ x g (run_stands del c ps₀ m₀ hs₀ k ek yes hs₁ eh bud x ex)) $
+          calls_at ! fm (Drive 𝓛 at_mem run) known_drive (to-drive hs₁ (ν₀ ∷ [], (ν₁ ∷ [], (ν₂ ∷ [], tt))) δ₀ δ₁ δ₂ x) (and_then ! (load ! (from ! (stop !)) (look ! 10 refl)) (and_then ! (load ! (from ! (stop !)) (look ! 8 refl)) (and_then ! (load ! (from ! (stop !)) (look ! 4 refl)) (and_then ! (load ! (from ! (stop !)) (look ! 40 refl)) (and_then ! (load ! (from ! (stop !)) (look ! 38 refl)) (and_then ! (load ! (from ! (stop !)) (look ! 32 refl)) (no_more !))))))) (λ v.
           use1 𝓛 (later (some (λ (y : Pending). ((‵ (flft (ν₀ ∷ []) full_share) ⊛ ‵ (flft (ν₁ ∷ []) full_share) ⊛ ‵ (flft (ν₂ ∷ []) full_share) ⊛ ‵ ftrue) ⊛ ‵ ((P.the_row).own_val y (v ∷ []))) ⊛ raw (ensured 𝓛 drive.ended (drive.clauses 𝓛 at_mem run) (ν₀ ∷ [], (ν₁ ∷ [], (ν₂ ∷ [], tt))) (x₀ δ₀ hs₁, (x₁ δ₁ ps₀, (x₂ δ₂ m₀, (del, (bud, (x, tt)))))) tt y)))) (id⊢ 𝓤 _) $ await ! tt $ pick ! (λ y.
           split ! $ move ! (1 ∷ []) $ use1 𝓛 (some (λ (zs : Lasts drive.ended (ν₀ ∷ [], (ν₁ ∷ [], (ν₂ ∷ [], tt))) (x₀ δ₀ hs₁, (x₁ δ₁ ps₀, (x₂ δ₂ m₀, (del, (bud, (x, tt))))))). ‵ (lasts drive.ended (ν₀ ∷ [], (ν₁ ∷ [], (ν₂ ∷ [], tt))) (x₀ δ₀ hs₁, (x₁ δ₁ ps₀, (x₂ δ₂ m₀, (del, (bud, (x, tt)))))) zs) ⊛ raw (fact 𝓤 (Driven hs₁ x y zs.0 zs.1.0 zs.1.1.0)))) (id⊢ 𝓤 _) $ pick ! (λ zs.
           split ! $ move ! (1 ∷ []) $ heard ! (Driven hs₁ x y zs.0 zs.1.0 zs.1.1.0) (λ e. fsplit ! $ move ! (1 ∷ []) $ fsplit ! $ move ! (1 ∷ []) $ fsplit ! $ fsplit ! $ move ! (1 ∷ []) $
@@ -525,7 +525,7 @@ module _ {M : Type 1} {𝓤 : Ura M} (𝓛 : Logic 𝓤) (at_mem : Memory → SP
           land ! (from ! (stop !)) (init ! 35 refl (lands-end y v is)) $ rewrite ! 35 (λ (u : Val). ‵ (fat full_share τ₁₀ l₁₀ 0 u)) (tells y v is) refl $ move ! (1 ∷ []) $ split ! $ lft_end ! tt $
           move ! (1 ∷ []) $ split ! $ lft_end ! tt $ move ! (1 ∷ []) $ split ! $ lft_end ! tt $ move ! (3 ∷ 11 ∷ 5 ∷ []) $
           use3 𝓛 (later (‵ ((MutSlice (named 0) κ₀ T.the_row).own_val (x₀ γ₀ zs.0) (sl ∷ [])) ⊛ ‵ (flft κ₀ q₀))) (back_at T.the_row κ₀ (ν₀ ∷ []) q₀ γ₀ b₀ o₀ 𝓛 (named 0) (named 0) hs₁ n₀ lh δ₀ zs.0 room₀ k₀) $ await ! tt $ split ! $
-          move ! (4 ∷ 10 ∷ 8 ∷ []) $ use3 𝓛 (later (‵ (prs zs.1.0) ⊛ ‵ (flft κ₁ q₁))) (comes-ref-back 𝓛 (Array u16 24) (named 1) κ₁ (ν₁ ∷ []) q₁ γ₁ b₁ o₁ δ₁ ps₀ zs.1.0) $ await ! tt $ split ! $
+          move ! (4 ∷ 10 ∷ 8 ∷ []) $ use3 𝓛 (later (‵ (prs zs.1.0) ⊛ ‵ (flft κ₁ q₁))) (comes_ref_back 𝓛 (Array u16 24) (named 1) κ₁ (ν₁ ∷ []) q₁ γ₁ b₁ o₁ δ₁ ps₀ zs.1.0) $ await ! tt $ split ! $
           move ! (4 ∷ 9 ∷ 7 ∷ []) $
           use3 𝓛 (later (‵ ((MutSlice (named 2) κ₂ u64).own_val (x₂ γ₂ zs.1.1.0) (sl₂ ∷ [])) ⊛ ‵ (flft κ₂ q₂))) (back_at u64 κ₂ (ν₂ ∷ []) q₂ γ₂ b₂ o₂ 𝓛 (named 2) (named 2) m₀ n₂ refl δ₂ zs.1.1.0 room₂ k₂) $ await ! tt $ split ! $
           forget ! 37 refl $ forget ! 17 refl $ forget ! 15 refl $ forget ! 13 refl $ forget ! 11 refl $ forget ! 9 refl $
@@ -537,7 +537,7 @@ module _ {M : Type 1} {𝓤 : Ura M} (𝓛 : Logic 𝓤) (at_mem : Memory → SP
           → Sq 𝓛 (‵ (recs hs₁) ∷ ‵ (flft κ₀ q₀) ∷ ‵ (prs ps₀) ∷ ‵ (flft κ₁ q₁) ∷ ‵ (mems m₀) ∷ ‵ (flft κ₂ q₂) ∷ ‵ (froom τ₂₃ l₂₃ 0) ∷ ‵ (fdies τ₂₃ l₂₃) ∷ ‵ (froom τ₂₂ l₂₂ 0) ∷ ‵ (fdies τ₂₂ l₂₂) ∷ ‵ (froom τ₂₁ l₂₁ 0) ∷ ‵ (fdies τ₂₁ l₂₁) ∷ ‵ (froom τ₂₀ l₂₀ 0) ∷ ‵ (fdies τ₂₀ l₂₀) ∷ ‵ (froom τ₁₉ l₁₉ 0) ∷ ‵ (fdies τ₁₉ l₁₉) ∷ ‵ (froom τ₁₈ l₁₈ 0) ∷ ‵ (fdies τ₁₈ l₁₈) ∷ ‵ (froom τ₁₇ l₁₇ 0) ∷ ‵ (fdies τ₁₇ l₁₇) ∷ ‵ (froom τ₁₆ l₁₆ 0) ∷ ‵ (fdies τ₁₆ l₁₆) ∷ ‵ (froom τ₁₅ l₁₅ 0) ∷ ‵ (fdies τ₁₅ l₁₅) ∷ ‵ (froom τ₁₄ l₁₄ 0) ∷ ‵ (fdies τ₁₄ l₁₄) ∷ ‵ (froom τ₁₃ l₁₃ 0) ∷ ‵ (fdies τ₁₃ l₁₃) ∷ ‵ (froom τ₁₂ l₁₂ 0) ∷ ‵ (fdies τ₁₂ l₁₂) ∷ ‵ (froom τ₁₁ l₁₁ 0) ∷ ‵ (fdies τ₁₁ l₁₁) ∷ ‵ (froom τ₁₀ l₁₀ 0) ∷ ‵ (fdies τ₁₀ l₁₀) ∷ ‵ (froom τ₉ l₉ 0) ∷ ‵ (fdies τ₉ l₉) ∷ ‵ (froom τ₈ l₈ 0) ∷ ‵ (fdies τ₈ l₈) ∷ ‵ (fat full_share τ₇ l₇ 0 (vbool single)) ∷ ‵ (fdies τ₇ l₇) ∷ ‵ (fat full_share τ₆ l₆ 0 (vint w32 bud)) ∷ ‵ (fdies τ₆ l₆) ∷ ‵ (fat full_share τ₅ l₅ 0 (mach-v del)) ∷ ‵ (fdies τ₅ l₅) ∷ ‵ (fat full_share τ₄ l₄ 0 (mach-c c)) ∷ ‵ (fdies τ₄ l₄) ∷ ‵ (fat full_share τ₃ l₃ 0 (sl₂)) ∷ ‵ (fdies τ₃ l₃) ∷ ‵ (fat full_share τ₂ l₂ 0 (vptr b₁ o₁)) ∷ ‵ (fdies τ₂ l₂) ∷ ‵ (fat full_share τ₁ l₁ 0 (sl)) ∷ ‵ (fdies τ₁ l₁) ∷ ‵ (froom τ₀ l₀ 0) ∷ ‵ (fdies τ₀ l₀) ∷ []) (runs C' Λ En b_11 (at_ret En Post))
       begins k ek yes hs₁ eh lh =
           use0 𝓛 (raw ((Begin 𝓛 at_mem run).pre (to-begin))) goes-begin $
-          calls_at ! fm (Begin 𝓛 at_mem run) known-begin (to-begin) (and_then ! (load ! (from ! (stop !)) (look ! 43 refl)) (and_then ! (load ! (from ! (stop !)) (look ! 45 refl)) (and_then ! (lit ! tt) (and_then ! (lit ! tt) (and_then ! (load ! (from ! (stop !)) (look ! 41 refl)) (no_more !)))))) (λ v.
+          calls_at ! fm (Begin 𝓛 at_mem run) known_begin (to-begin) (and_then ! (load ! (from ! (stop !)) (look ! 43 refl)) (and_then ! (load ! (from ! (stop !)) (look ! 45 refl)) (and_then ! (lit ! tt) (and_then ! (lit ! tt) (and_then ! (load ! (from ! (stop !)) (look ! 41 refl)) (no_more !)))))) (λ v.
           use1 𝓛 (later (some (λ (x : Pending). ((‵ ftrue) ⊛ ‵ ((P.the_row).own_val x (v ∷ []))) ⊛ raw (ensured 𝓛 begin.ended (begin.clauses 𝓛 at_mem run) tt (del, (c, (0, (0, (bud, tt))))) tt x)))) (id⊢ 𝓤 _) $ await ! tt $ pick ! (λ x.
           split ! $ move ! (1 ∷ []) $ use1 𝓛 (raw (fact 𝓤 (Begins del c 0 0 bud x))) (of-begin x) $ heard ! (Begins del c 0 0 bud x) (λ e. split ! $ move ! (1 ∷ []) $
           peeks ! P.the_row (Is P.the_row) (shows 𝓛 P.the_row) x (v ∷ []) (λ is.
@@ -552,9 +552,9 @@ module _ {M : Type 1} {𝓤 : Ura M} (𝓛 : Logic 𝓤) (at_mem : Memory → SP
           assigns ! (addr ! (from ! (fld ! refl (hop ! (look_in ! 50 (sub ! 0 refl (whole !))) (stop !))))) (from ! (stop !)) (init ! 18 refl (tt, tt)) $
           assigns ! (agg ! (and_then ! (load ! (from ! (stop !)) (look ! 18 refl)) (and_then ! (load ! (from ! (fld ! refl (stop !))) (look_in ! 50 (sub ! 1 refl (whole !)))) (no_more !)))) (from ! (stop !)) (init ! 16 refl (tt, (tt, (record { fits = room₀.0 }, tt)))) $
           lft_new ! tt (λ ν. move ! (1 ∷ 2 ∷ []) $
-          use2 𝓛 (later (some (λ (δ : GName). ‵ ((MutSlice (named 0) (ν ∷ []) T.the_row).own_val (x₀ δ hs₀) (sl ∷ [])) ⊛ ‵ (LentAgain T.the_row κ₀ (ν ∷ []) q₀ γ₀ b₀ o₀ δ hs₀)))) (lends-at T.the_row κ₀ (ν ∷ []) q₀ γ₀ b₀ o₀ 𝓛 (named 0) (named 0) hs₀ n₀ refl) $ await ! tt $ pick ! (λ δ. split ! $
+          use2 𝓛 (later (some (λ (δ : GName). ‵ ((MutSlice (named 0) (ν ∷ []) T.the_row).own_val (x₀ δ hs₀) (sl ∷ [])) ⊛ ‵ (LentAgain T.the_row κ₀ (ν ∷ []) q₀ γ₀ b₀ o₀ δ hs₀)))) (lends_at T.the_row κ₀ (ν ∷ []) q₀ γ₀ b₀ o₀ 𝓛 (named 0) (named 0) hs₀ n₀ refl) $ await ! tt $ pick ! (λ δ. split ! $
           nothing ! $ move ! (3 ∷ 0 ∷ []) $ join ! $ use2 𝓛 (raw ((Order 𝓛 at_mem run).pre (to-order (ν ∷ []) δ))) (goes_order (ν ∷ []) δ) $
-          calls_at ! fm (Order 𝓛 at_mem run) known-order (to-order (ν ∷ []) δ) (and_then ! (load ! (from ! (stop !)) (look ! 16 refl)) (no_more !)) (λ v.
+          calls_at ! fm (Order 𝓛 at_mem run) known_order (to-order (ν ∷ []) δ) (and_then ! (load ! (from ! (stop !)) (look ! 16 refl)) (no_more !)) (λ v.
           use1 𝓛 (later (some (λ (r : Unit {0}). ((‵ (flft (ν ∷ []) full_share) ⊛ ‵ ftrue) ⊛ ‵ (unit.own_val r (v ∷ []))) ⊛ raw (ensured 𝓛 order.ended (order.clauses 𝓛 at_mem run) (ν ∷ [], tt) (x₀ δ hs₀, tt) tt r)))) (id⊢ 𝓤 _) $ await ! tt $ pick ! (λ r.
           split ! $ move ! (1 ∷ []) $ use1 𝓛 (some (λ (zs : Lasts order.ended (ν ∷ [], tt) (x₀ δ hs₀, tt)). ‵ (lasts order.ended (ν ∷ [], tt) (x₀ δ hs₀, tt) zs) ⊛ raw (fact 𝓤 (zs.0 ≡ in_order hs₀)))) (id⊢ 𝓤 _) $ pick ! (λ zs.
           split ! $ move ! (1 ∷ []) $ heard ! (zs.0 ≡ in_order hs₀) (λ e. fsplit ! $ fsplit ! $ move ! (1 ∷ []) $ feq_l ! (λ l. move ! (2 ∷ []) $ split ! $ move ! (1 ∷ []) $ feq_l ! (λ un.
@@ -570,9 +570,9 @@ module _ {M : Type 1} {𝓤 : Ura M} (𝓛 : Logic 𝓤) (at_mem : Memory → SP
       decides k gk ek =
           assigns ! (bin ! (load ! (from ! (stop !)) (look ! 36 refl)) (lit ! tt) tt) (from ! (stop !)) (init ! 22 refl (tt, tt)) $ first ! $ branches ! (load ! (from ! (stop !)) (look ! 22 refl))
           (λ other. use0 𝓛 (raw ((Refused 𝓛 at_mem run).pre (to-refused k))) (goes-refused k gk) $
-          calls_at ! fm (Refused 𝓛 at_mem run) known-refused (to-refused k) (and_then ! (load ! (from ! (stop !)) (look ! 37 refl)) (and_then ! (load ! (from ! (stop !)) (look ! 45 refl)) (no_more !))) (λ v.
+          calls_at ! fm (Refused 𝓛 at_mem run) known_refused (to-refused k) (and_then ! (load ! (from ! (stop !)) (look ! 37 refl)) (and_then ! (load ! (from ! (stop !)) (look ! 45 refl)) (no_more !))) (λ v.
           use1 𝓛 (later (some (λ (r : Answered). ((‵ ftrue) ⊛ ‵ ((X.the_row).own_val r (v ∷ []))) ⊛ raw (ensured 𝓛 refused.ended (refused.clauses 𝓛 at_mem run) tt (k, (c, tt)) tt r)))) (id⊢ 𝓤 _) $ await ! tt $ pick ! (λ r.
-          split ! $ move ! (1 ∷ []) $ use1 𝓛 (raw (fact 𝓤 (Answers-with (Reply.Refused k) c 0 r))) (of-refused k r) $ heard ! (Answers-with (Reply.Refused k) c 0 r) (λ e. split ! $ move ! (1 ∷ []) $
+          split ! $ move ! (1 ∷ []) $ use1 𝓛 (raw (fact 𝓤 (AnswersWith (Reply.Refused k) c 0 r))) (of-refused k r) $ heard ! (AnswersWith (Reply.Refused k) c 0 r) (λ e. split ! $ move ! (1 ∷ []) $
           peeks ! X.the_row (Is X.the_row) (shows 𝓛 X.the_row) r (v ∷ []) (λ is.
           land ! (from ! (stop !)) (init ! 54 refl (lands_x r v is)) $ rewrite ! 54 (λ (u : Val). ‵ (fat full_share τ₀ l₀ 0 u)) (tells-x r v is) refl $ returns_within ! Post refl (look ! 54 refl) $
           forget ! 54 refl $ forget ! 52 refl $ forget ! 50 refl $ forget ! 48 refl $ forget ! 46 refl $ forget ! 44 refl $ forget ! 42 refl $ forget ! 40 refl $ forget ! 38 refl $ forget ! 24 refl $
@@ -581,7 +581,7 @@ module _ {M : Type 1} {𝓤 : Ura M} (𝓛 : Logic 𝓤) (at_mem : Memory → SP
           move ! (32 ∷ 33 ∷ []) $ free1 ! $ move ! (30 ∷ 31 ∷ []) $ free1 ! $ move ! (28 ∷ 29 ∷ []) $ free1 ! $ move ! (26 ∷ 27 ∷ []) $ free1 ! $ move ! (24 ∷ 25 ∷ []) $ free1 ! $ move ! (22 ∷ 23 ∷ []) $
           free1 ! $ move ! (20 ∷ 21 ∷ []) $ free1 ! $ move ! (18 ∷ 19 ∷ []) $ free1 ! $ move ! (16 ∷ 17 ∷ []) $ free1 ! $ move ! (14 ∷ 15 ∷ []) $ free1 ! $ move ! (12 ∷ 13 ∷ []) $ free1 ! $
           move ! (10 ∷ 11 ∷ []) $ free1 ! $ move ! (8 ∷ 9 ∷ []) $ free1 ! $ free0 ! $ keep ! (2 ∷ 3 ∷ 4 ∷ 5 ∷ 6 ∷ 7 ∷ []) $
-          by ! (exits r hs₀ ps₀ m₀ (told-x r v is) refl refl (run-refuses del c ps₀ m₀ hs₀ k ek single bud r (is-other k 0 other) e)))))))
+          by ! (exits r hs₀ ps₀ m₀ (told-x r v is) refl refl (run_refuses del c ps₀ m₀ hs₀ k ek single bud r (is-other k 0 other) e)))))))
           (λ so. skips ! $ exec ! C' Λ En b_8 (at_ret En Post) $ forget ! 36 refl $ forget ! 22 refl $
           keep ! (0 ∷ 1 ∷ 2 ∷ 3 ∷ 4 ∷ 5 ∷ 6 ∷ 7 ∷ 8 ∷ 9 ∷ 10 ∷ 11 ∷ 12 ∷ 13 ∷ 14 ∷ 15 ∷ 16 ∷ 17 ∷ 18 ∷ 19 ∷ 20 ∷ 21 ∷ 22 ∷ 23 ∷ 24 ∷ 25 ∷ 26 ∷ 27 ∷ 28 ∷ 29 ∷ 30 ∷ 31 ∷ 32 ∷ 33 ∷ 34 ∷ 35 ∷ 36 ∷ 37 ∷ 38 ∷ 39 ∷ 40 ∷ 41 ∷ 42 ∷ 43 ∷ 44 ∷ 45 ∷ 46 ∷ 47 ∷ 48 ∷ 49 ∷ 50 ∷ 51 ∷ 52 ∷ 53 ∷ []) $
           orders k ek (is-so k 0 so))
@@ -595,18 +595,18 @@ module _ {M : Type 1} {𝓤 : Ura M} (𝓛 : Logic 𝓤) (at_mem : Memory → SP
           assigns ! (addr ! (from ! (fld ! refl (hop ! (look_in ! 46 (sub ! 0 refl (whole !))) (stop !))))) (from ! (stop !)) (init ! 26 refl (tt, tt)) $
           assigns ! (agg ! (and_then ! (load ! (from ! (stop !)) (look ! 26 refl)) (and_then ! (load ! (from ! (fld ! refl (stop !))) (look_in ! 46 (sub ! 1 refl (whole !)))) (no_more !)))) (from ! (stop !)) (init ! 24 refl (tt, (tt, (record { fits = room₂.0 }, tt)))) $
           lft_new ! tt (λ ν. move ! (3 ∷ 4 ∷ []) $
-          use2 𝓛 (later (some (λ (δ : GName). ‵ ((ShrRef (named 0) (ν ∷ []) (Array u16 24)).own_val (x₁ δ ps₀) (vptr b₁ o₁ ∷ [])) ⊛ ‵ (KeptRef (Array u16 24) κ₁ (ν ∷ []) q₁ γ₁ b₁ o₁ ps₀)))) (shares-ref (Array u16 24) κ₁ (ν ∷ []) q₁ γ₁ b₁ o₁ 𝓛 (named 1) (named 0) ps₀) $ await ! tt $ pick ! (λ δ. split ! $
+          use2 𝓛 (later (some (λ (δ : GName). ‵ ((ShrRef (named 0) (ν ∷ []) (Array u16 24)).own_val (x₁ δ ps₀) (vptr b₁ o₁ ∷ [])) ⊛ ‵ (KeptRef (Array u16 24) κ₁ (ν ∷ []) q₁ γ₁ b₁ o₁ ps₀)))) (shares_ref (Array u16 24) κ₁ (ν ∷ []) q₁ γ₁ b₁ o₁ 𝓛 (named 1) (named 0) ps₀) $ await ! tt $ pick ! (λ δ. split ! $
           lft_new ! tt (λ μ. move ! (6 ∷ 7 ∷ []) $
-          use2 𝓛 (later (some (λ (ε : GName). ‵ ((ShrSlice (named 1) (μ ∷ []) u64).own_val (x₂ ε m₀) (sl₂ ∷ [])) ⊛ ‵ (KeptSlice u64 κ₂ (μ ∷ []) q₂ γ₂ b₂ o₂ m₀)))) (shares-slice u64 κ₂ (μ ∷ []) q₂ γ₂ b₂ o₂ 𝓛 (named 2) (named 1) m₀) $ await ! tt $ pick ! (λ ε. split ! $
+          use2 𝓛 (later (some (λ (ε : GName). ‵ ((ShrSlice (named 1) (μ ∷ []) u64).own_val (x₂ ε m₀) (sl₂ ∷ [])) ⊛ ‵ (KeptSlice u64 κ₂ (μ ∷ []) q₂ γ₂ b₂ o₂ m₀)))) (shares_slice u64 κ₂ (μ ∷ []) q₂ γ₂ b₂ o₂ 𝓛 (named 2) (named 1) m₀) $ await ! tt $ pick ! (λ ε. split ! $
           nothing ! $ move ! (3 ∷ 0 ∷ []) $ join ! $ move ! (5 ∷ 0 ∷ []) $ join ! $ move ! (0 ∷ 3 ∷ 1 ∷ []) $
           use3 𝓛 (raw ((First 𝓛 at_mem run).pre (to-first (ν ∷ []) (μ ∷ []) δ ε))) (goes_first (ν ∷ []) (μ ∷ []) δ ε) $
-          calls_at ! fm (First 𝓛 at_mem run) known-first (to-first (ν ∷ []) (μ ∷ []) δ ε) (and_then ! (load ! (from ! (stop !)) (look ! 29 refl)) (and_then ! (load ! (from ! (stop !)) (look ! 41 refl)) (and_then ! (load ! (from ! (stop !)) (look ! 43 refl)) (and_then ! (load ! (from ! (stop !)) (look ! 27 refl)) (and_then ! (load ! (from ! (stop !)) (look ! 23 refl)) (no_more !)))))) (λ v.
-          use1 𝓛 (later (some (λ (k : ℕ). ((‵ (flft (ν ∷ []) full_share) ⊛ ‵ (flft (μ ∷ []) full_share) ⊛ ‵ ftrue) ⊛ ‵ (u8.own_val k (v ∷ []))) ⊛ raw (ensured 𝓛 first-no.ended (first-no.clauses 𝓛 at_mem run) (ν ∷ [], (μ ∷ [], tt)) (n₀, (del, (c, (x₁ δ ps₀, (x₂ ε m₀, tt))))) tt k)))) (id⊢ 𝓤 _) $ await ! tt $ pick ! (λ k.
+          calls_at ! fm (First 𝓛 at_mem run) known_first (to-first (ν ∷ []) (μ ∷ []) δ ε) (and_then ! (load ! (from ! (stop !)) (look ! 29 refl)) (and_then ! (load ! (from ! (stop !)) (look ! 41 refl)) (and_then ! (load ! (from ! (stop !)) (look ! 43 refl)) (and_then ! (load ! (from ! (stop !)) (look ! 27 refl)) (and_then ! (load ! (from ! (stop !)) (look ! 23 refl)) (no_more !)))))) (λ v.
+          use1 𝓛 (later (some (λ (k : ℕ). ((‵ (flft (ν ∷ []) full_share) ⊛ ‵ (flft (μ ∷ []) full_share) ⊛ ‵ ftrue) ⊛ ‵ (u8.own_val k (v ∷ []))) ⊛ raw (ensured 𝓛 first_no.ended (first_no.clauses 𝓛 at_mem run) (ν ∷ [], (μ ∷ [], tt)) (n₀, (del, (c, (x₁ δ ps₀, (x₂ ε m₀, tt))))) tt k)))) (id⊢ 𝓤 _) $ await ! tt $ pick ! (λ k.
           split ! $ move ! (1 ∷ []) $ use1 𝓛 (raw (fact 𝓤 (First-no k))) (of-first (ν ∷ []) (μ ∷ []) δ ε k) $ heard ! (First-no k) (λ e. split ! $ move ! (1 ∷ []) $
           peeks ! u8 (Is u8) (shows 𝓛 u8) k (v ∷ []) (λ is. land ! (from ! (stop !)) (init ! 36 refl (lands-n k v is)) $ rewrite ! 36 (λ (u : Val). ‵ (fat full_share τ₈ l₈ 0 u)) (ap only is.0) refl $
           move ! (1 ∷ []) $ split ! $ lft_end ! tt $ move ! (1 ∷ []) $ split ! $ lft_end ! tt $ move ! (2 ∷ 5 ∷ []) $
-          use2 𝓛 (later (‵ (prs ps₀) ⊛ ‵ (flft κ₁ q₁))) (ref-again (Array u16 24) κ₁ (ν ∷ []) q₁ γ₁ b₁ o₁ 𝓛 (named 1) (named 0) ps₀) $ await ! tt $ split ! $ move ! (2 ∷ 5 ∷ []) $
-          use2 𝓛 (later (‵ (mems m₀) ⊛ ‵ (flft κ₂ q₂))) (slice-again u64 κ₂ (μ ∷ []) q₂ γ₂ b₂ o₂ 𝓛 (named 2) (named 1) m₀) $ await ! tt $ split ! $ forget ! 32 refl $ forget ! 30 refl $ forget ! 28 refl $
+          use2 𝓛 (later (‵ (prs ps₀) ⊛ ‵ (flft κ₁ q₁))) (ref_again (Array u16 24) κ₁ (ν ∷ []) q₁ γ₁ b₁ o₁ 𝓛 (named 1) (named 0) ps₀) $ await ! tt $ split ! $ move ! (2 ∷ 5 ∷ []) $
+          use2 𝓛 (later (‵ (mems m₀) ⊛ ‵ (flft κ₂ q₂))) (slice_again u64 κ₂ (μ ∷ []) q₂ γ₂ b₂ o₂ 𝓛 (named 2) (named 1) m₀) $ await ! tt $ split ! $ forget ! 32 refl $ forget ! 30 refl $ forget ! 28 refl $
           forget ! 26 refl $
           keep ! (6 ∷ 7 ∷ 2 ∷ 3 ∷ 0 ∷ 1 ∷ 8 ∷ 9 ∷ 10 ∷ 11 ∷ 12 ∷ 13 ∷ 14 ∷ 15 ∷ 16 ∷ 17 ∷ 18 ∷ 19 ∷ 20 ∷ 21 ∷ 22 ∷ 23 ∷ 24 ∷ 25 ∷ 26 ∷ 27 ∷ 28 ∷ 29 ∷ 30 ∷ 31 ∷ 32 ∷ 33 ∷ 34 ∷ 35 ∷ 36 ∷ 37 ∷ 38 ∷ 39 ∷ 40 ∷ 41 ∷ 42 ∷ 43 ∷ 44 ∷ 45 ∷ 46 ∷ 47 ∷ 48 ∷ 49 ∷ 50 ∷ 51 ∷ 52 ∷ 53 ∷ 54 ∷ 55 ∷ []) $
           decides k is.1 e))))))))
@@ -627,15 +627,15 @@ module _ {M : Type 1} {𝓤 : Ura M} (𝓛 : Logic 𝓤) (at_mem : Memory → SP
         keep ! (7 ∷ 3 ∷ 6 ∷ 2 ∷ 4 ∷ 0 ∷ 8 ∷ 9 ∷ 10 ∷ 11 ∷ 12 ∷ 13 ∷ 14 ∷ 15 ∷ 16 ∷ 17 ∷ 18 ∷ 19 ∷ 20 ∷ 21 ∷ 22 ∷ 23 ∷ 24 ∷ 25 ∷ 26 ∷ 27 ∷ 28 ∷ 29 ∷ 30 ∷ 31 ∷ 32 ∷ 33 ∷ 34 ∷ 35 ∷ 36 ∷ 37 ∷ 38 ∷ 39 ∷ 40 ∷ 41 ∷ 42 ∷ 43 ∷ 44 ∷ 45 ∷ 46 ∷ 47 ∷ 48 ∷ 49 ∷ 50 ∷ 51 ∷ 52 ∷ 53 ∷ 54 ∷ 55 ∷ []) $
         starts l₀ l₁ l₂ l₃ l₄ l₅ l₆ l₇ l₈ l₉ l₁₀ l₁₁ l₁₂ l₁₃ l₁₄ l₁₅ l₁₆ l₁₇ l₁₈ l₁₉ l₂₀ l₂₁ l₂₂ l₂₃))))))))))))))))))))))))
 
-module _ {M : Type 1} {𝓤 : Ura M} (𝓛 : Logic 𝓤) (at_mem : Memory → SProp 𝓤) (run : Routine → Fun 𝓤) (𝓣 : Tables 𝓤 𝓛.H) (known-first : Triple 𝓤 (𝓣.C #own·first-no) (First 𝓛 at_mem run)) (known-refused : Triple 𝓤 (𝓣.C #own·refused) (Refused 𝓛 at_mem run)) (known-order : Triple 𝓤 (𝓣.C #lookup·order) (Order 𝓛 at_mem run)) (known-begin : Triple 𝓤 (𝓣.C #pending·begin) (Begin 𝓛 at_mem run))
-    (known-drive : Triple 𝓤 (𝓣.C #driver·drive) (Drive 𝓛 at_mem run)) (known-finished : Triple 𝓤 (𝓣.C #own·finished) (Finished 𝓛 at_mem run)) where
+module _ {M : Type 1} {𝓤 : Ura M} (𝓛 : Logic 𝓤) (at_mem : Memory → SProp 𝓤) (run : Routine → Fun 𝓤) (𝓣 : Tables 𝓤 𝓛.H) (known_first : Triple 𝓤 (𝓣.C #own·first-no) (First 𝓛 at_mem run)) (known_refused : Triple 𝓤 (𝓣.C #own·refused) (Refused 𝓛 at_mem run)) (known_order : Triple 𝓤 (𝓣.C #lookup·order) (Order 𝓛 at_mem run)) (known_begin : Triple 𝓤 (𝓣.C #pending·begin) (Begin 𝓛 at_mem run))
+    (known_drive : Triple 𝓤 (𝓣.C #driver·drive) (Drive 𝓛 at_mem run)) (known_finished : Triple 𝓤 (𝓣.C #own·finished) (Finished 𝓛 at_mem run)) where
   open 𝓛 use {H}
 
   f-walks : Walks 𝓛 f.ended stayed (WpFn 𝓤 H 𝓣.C 𝓣.Λ code.function) (f.clauses 𝓛 at_mem run)
   f-walks = walked 𝓛 f.ended stayed (f.clauses 𝓛 at_mem run) (WpFn 𝓤 H 𝓣.C 𝓣.Λ code.function) (λ κs. (mut_slice_vals, (mut_vals, (mut_slice_vals, ((λ d. mach-c d ∷ []), ((λ d. mach-v d ∷ []), (uint_vals w32, (bool_vals, tt))))))))
       (λ κs. (mut_slice_Tells (named 0) κs.0 T.the_row, (mut_Tells (named 1) κs.1.0 (Array u16 24), (mut_slice_Tells (named 2) κs.1.1.0 u64, (all-tell-c, (all-tell-v, (uint_Tells w32, (bool_Tells, tt))))))))
       (λ κs qs bounds a g are. via 𝓤 _ (fst∗ 𝓤 _ (emp 𝓤))
-      (walk 𝓛 at_mem run κs.0 κs.1.0 κs.1.1.0 qs.0 qs.1.0 qs.1.1.0 a.0.ref_ptr.0 a.0.ref_ptr.1 a.0.ghost_name a.0.now a.1.0.ref_ptr.0 a.1.0.ref_ptr.1 a.1.0.ghost_name a.1.0.now a.1.1.0.ref_ptr.0 a.1.1.0.ref_ptr.1 a.1.1.0.ghost_name a.1.1.0.now a.1.1.1.0 are.1.1.1.0 a.1.1.1.1.0 are.1.1.1.1.0 a.1.1.1.1.1.0 are.1.1.1.1.1.0.1 a.1.1.1.1.1.1.0 are.0.0.1 are.1.1.0.0.1 𝓣.C 𝓣.Λ (fm_of 𝓤 H 𝓛.laws 𝓣) known-first known-refused known-order known-begin known-drive known-finished))
+      (walk 𝓛 at_mem run κs.0 κs.1.0 κs.1.1.0 qs.0 qs.1.0 qs.1.1.0 a.0.ref_ptr.0 a.0.ref_ptr.1 a.0.ghost_name a.0.now a.1.0.ref_ptr.0 a.1.0.ref_ptr.1 a.1.0.ghost_name a.1.0.now a.1.1.0.ref_ptr.0 a.1.1.0.ref_ptr.1 a.1.1.0.ghost_name a.1.1.0.now a.1.1.1.0 are.1.1.1.0 a.1.1.1.1.0 are.1.1.1.1.0 a.1.1.1.1.1.0 are.1.1.1.1.1.0.1 a.1.1.1.1.1.1.0 are.0.0.1 are.1.1.0.0.1 𝓣.C 𝓣.Λ (fm_of 𝓤 H 𝓛.laws 𝓣) known_first known_refused known_order known_begin known_drive known_finished))
 
   all_go : AllGo 𝓛 3 (f.signature).params (f.ended).kept stayed
   all_go = (Goes-slice 𝓛 3 0 tt (plain (λ _. T.the_row)), (Goes-ref 𝓛 3 1 tt (ArrayOf (plain (λ _. u16)) (λ _. tt) 24), (Goes-slice 𝓛 3 2 tt (plain (λ _. u64)), (Goes-none 𝓛 3 (λ _. C.the_row) yes (λ κs x f. refl), (Goes-none 𝓛 3 (λ _. D.the_row) yes (λ κs x f. refl), (Goes-none 𝓛 3 (λ _. u32) yes (λ κs x f. refl), (Goes-none 𝓛 3 (λ _. bool) yes (λ κs x f. refl), tt)))))))
@@ -649,9 +649,9 @@ run_spec 𝓤 𝓛 𝓜 𝓡 =
     entered 𝓤 𝓛.H (triple_of 𝓛 f.signature (f.spec 𝓛 𝓜.mem 𝓡.run))
     (tables 𝓤 𝓛.H 𝓜 𝓡 code.env).C (tables 𝓤 𝓛.H 𝓜 𝓡 code.env).Λ #own·run code.function (code.unfolded 𝓤 𝓛.H 𝓜 𝓡)
     (f_meets 𝓛 𝓜.mem 𝓡.run (tables_of 𝓤 𝓛.H 𝓜 (tables 𝓤 𝓛.H 𝓜 𝓡 code.env))
-    (cited 𝓤 𝓛.H (First 𝓛 𝓜.mem 𝓡.run) 𝓜 𝓡 code.env #own·first-no first-symbol.routine code.calls-kuzhlemor-close::first-no (first-met.met 𝓤 𝓛 𝓜 𝓡))
-    (cited 𝓤 𝓛.H (Refused 𝓛 𝓜.mem 𝓡.run) 𝓜 𝓡 code.env #own·refused refused-symbol.routine code.calls-kuzhlemor-close::refused (refused-met.met 𝓤 𝓛 𝓜 𝓡))
-    (cited 𝓤 𝓛.H (Order 𝓛 𝓜.mem 𝓡.run) 𝓜 𝓡 code.env #lookup·order order-symbol.routine code.calls-lookup::order (order-met.met 𝓤 𝓛 𝓜 𝓡))
-    (cited 𝓤 𝓛.H (Begin 𝓛 𝓜.mem 𝓡.run) 𝓜 𝓡 code.env #pending·begin begin-symbol.routine code.calls-pending::begin (begin-met.met 𝓤 𝓛 𝓜 𝓡))
-    (cited 𝓤 𝓛.H (Drive 𝓛 𝓜.mem 𝓡.run) 𝓜 𝓡 code.env #driver·drive drive-symbol.routine code.calls-driver::drive (drive-met.met 𝓤 𝓛 𝓜 𝓡))
-    (cited 𝓤 𝓛.H (Finished 𝓛 𝓜.mem 𝓡.run) 𝓜 𝓡 code.env #own·finished finished-symbol.routine code.calls-kuzhlemor-close::finished (finished-met.met 𝓤 𝓛 𝓜 𝓡)))
+    (cited 𝓤 𝓛.H (First 𝓛 𝓜.mem 𝓡.run) 𝓜 𝓡 code.env #own·first-no first_symbol.routine code.calls-kuzhlemor-close::first-no (first_met.met 𝓤 𝓛 𝓜 𝓡))
+    (cited 𝓤 𝓛.H (Refused 𝓛 𝓜.mem 𝓡.run) 𝓜 𝓡 code.env #own·refused refused_symbol.routine code.calls-kuzhlemor-close::refused (refused_met.met 𝓤 𝓛 𝓜 𝓡))
+    (cited 𝓤 𝓛.H (Order 𝓛 𝓜.mem 𝓡.run) 𝓜 𝓡 code.env #lookup·order order_symbol.routine code.calls-lookup::order (order_met.met 𝓤 𝓛 𝓜 𝓡))
+    (cited 𝓤 𝓛.H (Begin 𝓛 𝓜.mem 𝓡.run) 𝓜 𝓡 code.env #pending·begin begin_symbol.routine code.calls-pending::begin (begin_met.met 𝓤 𝓛 𝓜 𝓡))
+    (cited 𝓤 𝓛.H (Drive 𝓛 𝓜.mem 𝓡.run) 𝓜 𝓡 code.env #driver·drive drive_symbol.routine code.calls-driver::drive (drive_met.met 𝓤 𝓛 𝓜 𝓡))
+    (cited 𝓤 𝓛.H (Finished 𝓛 𝓜.mem 𝓡.run) 𝓜 𝓡 code.env #own·finished finished_symbol.routine code.calls-kuzhlemor-close::finished (finished_met.met 𝓤 𝓛 𝓜 𝓡)))

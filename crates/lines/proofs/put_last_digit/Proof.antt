@@ -1,6 +1,6 @@
 -- `put_last_digit` meets its contract. Assumes nothing.
 use borrow.Author.Rules.{rules}
-use Rattle.lines.proofs.LineLaws.{step-line-laws}
+use Rattle.lines.proofs.LineLaws.{step_line_laws}
 use Rattle.lines.proofs.put_last_digit.Statement.{statement}
 use Rattle.lines.proofs.put_last_digit.Tie as tie
 
@@ -17,7 +17,7 @@ same_length : tie.Need-same-length
 same_length c = search rules
 
 returns : tie.Need-returns
-returns c = search (rules, step-line-laws)
+returns c = search (rules, step_line_laws)
 
 pub put-last-digit-spec : {M : Type 1} → statement M
 put-last-digit-spec =

@@ -1,6 +1,6 @@
 -- `put_step_line` meets its contract. Assumes nothing.
 use borrow.Author.Rules.{rules}
-use Rattle.lines.proofs.KeptLaws.{kept-line-laws}
+use Rattle.lines.proofs.KeptLaws.{kept_line_laws}
 use Rattle.lines.proofs.put_step_line.Statement.{statement}
 use Rattle.lines.proofs.put_step_line.Tie as tie
 
@@ -17,7 +17,7 @@ same_length : tie.Need-same-length
 same_length c = search rules
 
 returns : tie.Need-returns
-returns c = search (rules, kept-line-laws)
+returns c = search (rules, kept_line_laws)
 
 pub put-step-line-spec : {M : Type 1} → statement M
 put-step-line-spec =

@@ -1,6 +1,6 @@
 -- `put_tens` meets its contract. Assumes nothing.
 use borrow.Author.Rules.{rules}
-use Rattle.parts.proofs.BytesLaws.{ninth-byte-put}
+use Rattle.parts.proofs.BytesLaws.{ninth_byte_put}
 use Rattle.lines.proofs.put_tens.Statement.{statement}
 use Rattle.lines.proofs.put_tens.Tie as tie
 
@@ -29,7 +29,7 @@ same_length : tie.Need-same-length
 same_length c = search rules
 
 returns : tie.Need-returns
-returns c = search (rules, ninth-byte-put)
+returns c = search (rules, ninth_byte_put)
 
 same-length-2 : tie.Need-same-length-2
 same-length-2 c = search rules

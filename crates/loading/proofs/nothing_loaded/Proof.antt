@@ -8,29 +8,29 @@ use Prim.Native.Nat.{ℕ}
 use lib.Dec.{leb}
 use lib.ListN.{length, replicate, length-replicate}
 use Rattle.model.specs.Image as Image
-use Rattle.model.specs.Registers.{no-delivery}
-use Rattle.addresses.proofs.SetLaws.{none-in-zeros}
-use Rattle.loading.specs.View.{rules-of, keeps-words, set-in, rules-in, as-loading, Store-sized, Memory-within, Starts, Starts-sizing}
+use Rattle.model.specs.Registers.{no_delivery}
+use Rattle.addresses.proofs.SetLaws.{none_in_zeros}
+use Rattle.loading.specs.View.{rules_of, keeps_words, set_in, rules_in, as_loading, StoreSized, MemoryWithin, Starts, StartsSizing}
 use Rattle.loading.proofs.nothing_loaded.Statement.{statement}
 use Rattle.loading.proofs.nothing_loaded.Tie as tie
 
 zeros-still : (n : ℕ) (m : List ℕ) → m ≡ replicate n 0 → m ≡ replicate (length m) 0
 zeros-still n m z = z ∙ ap (λ k. replicate k 0) (sym (ap length z ∙ length-replicate {A = ℕ} n 0))
 
-full-rules : (v : Bool) → rules-in v (replicate 8320 0) ≡ rules-of v
-unfolding rules-in rules-of keeps-words
+full-rules : (v : Bool) → rules_in v (replicate 8320 0) ≡ rules_of v
+unfolding rules_in rules_of keeps_words
 full-rules true = refl
 full-rules false = ap (λ n. cond (leb 8320 n) Image.today Image.sizing) (length-replicate {A = ℕ} 8320 0)
 
-set-rules : (v : Bool) → v ≡ false → rules-in v (replicate 128 0) ≡ Image.sizing
-unfolding rules-in keeps-words
+set-rules : (v : Bool) → v ≡ false → rules_in v (replicate 128 0) ≡ Image.sizing
+unfolding rules_in keeps_words
 set-rules true e = absurd (true≢false e)
 set-rules false e = ap (λ n. cond (leb 8320 n) Image.today Image.sizing) (length-replicate {A = ℕ} 128 0)
 
 returns : tie.Need-returns
-unfolding Starts Starts-sizing as-loading Store-sized Memory-within set-in
+unfolding Starts StartsSizing as_loading StoreSized MemoryWithin set_in
 returns c =
-    (λ m z. (record { sized = inl (ap length z ∙ length-replicate {A = ℕ} 8320 0); memory-within = zeros-still 8320 m z }, rw (z, full-rules c.args.is-stored) (ap (λ w. record { rules = rules-of c.args.is-stored; memory = none; written = w; registers = none; delivery = no-delivery }) (none-in-zeros 128))), λ e m z. (record { sized = inr (ap length z ∙ length-replicate {A = ℕ} 128 0, e); memory-within = zeros-still 128 m z }, rw (z, set-rules c.args.is-stored e) (ap (λ w. record { rules = Image.sizing; memory = none; written = w; registers = none; delivery = no-delivery }) (none-in-zeros 128))))
+    (λ m z. (record { sized = inl (ap length z ∙ length-replicate {A = ℕ} 8320 0); memory_within = zeros-still 8320 m z }, rw (z, full-rules c.args.is-stored) (ap (λ w. record { rules = rules_of c.args.is-stored; memory = none; written = w; registers = none; delivery = no_delivery }) (none_in_zeros 128))), λ e m z. (record { sized = inr (ap length z ∙ length-replicate {A = ℕ} 128 0, e); memory_within = zeros-still 128 m z }, rw (z, set-rules c.args.is-stored e) (ap (λ w. record { rules = Image.sizing; memory = none; written = w; registers = none; delivery = no_delivery }) (none_in_zeros 128))))
 
 pub nothing-loaded-spec : {M : Type 1} → statement M
 nothing-loaded-spec = tie.close (tie.spec returns)

@@ -44,11 +44,11 @@ use denote.Triple.Clauses.{ensured, lasts}
 use denote.Triple.Table.{entered, cited}
 use denote.Triple.Walked.{says, Stays, stay_slice, stay_none, walk_of, Goes-slice, Goes-none, Walks, ends_at, walked, walk_Meets}
 use denote.Exit.{yes}
-use Rattle.lookup.specs.Lookup.{no_record, without-mark}
+use Rattle.lookup.specs.Lookup.{no_record, without_mark}
 use Rattle.lookup.specs.declared.Record.{Record}
-use Rattle.lookup.proofs.Place.{offset-fits}
+use Rattle.lookup.proofs.Place.{offset_fits}
 use Rattle.lookup.proofs.Parts.{after, ty_at}
-use Rattle.lookup.proofs.Lists.{first_by, none-by, first-length, one-turn, all-by}
+use Rattle.lookup.proofs.Lists.{first_by, none_by, first_length, one_turn, all_by}
 use Rattle.lookup.specs.contracts.Record as T
 use Rattle.lookup.proofs.Record.TheLaws as T'
 use Rattle.lookup.specs.contracts.unmark as core
@@ -89,10 +89,10 @@ module _ {M : Type 1} {𝓤 : Ura M} (𝓛 : Logic 𝓤) (at_mem : Memory → SP
 
   -- the list at exit, and where so many are changed
   abbrev zs : List Record
-  zs = map without-mark ys
+  zs = map without_mark ys
 
   abbrev upto : ℕ → List Record
-  upto k = first_by without-mark k ys
+  upto k = first_by without_mark k ys
 
   abbrev elem : ℕ → Record
   elem k = get_or (upto k) k no_record
@@ -106,9 +106,9 @@ module _ {M : Type 1} {𝓤 : Ura M} (𝓛 : Logic 𝓤) (at_mem : Memory → SP
   exits : ent 𝓤 (⋆ 𝓛 (‵ (fobs γ ((coded_holeys T.the_row).code (heres T.the_row zs))) ∷ ‵ (fbor κ (Held T.the_row (length zs) b o γ)) ∷ ‵ (flft κ q) ∷ [])) (Post vunit)
   exits =
       qed 𝓛 (‵ (fobs γ ((coded_holeys T.the_row).code (heres T.the_row zs))) ∷ ‵ (fbor κ (Held T.the_row (length zs) b o γ)) ∷ ‵ (flft κ q) ∷ []) ∵
-      suffices ! _ (ends_at 𝓛 f.ended stayed (f.clauses 𝓛 at_mem run) (((κ, tt), (q, tt), tt, x, at), tt) vunit tt (zs, tt) (length-map ys without-mark, tt)) $ says ! refl $
+      suffices ! _ (ends_at 𝓛 f.ended stayed (f.clauses 𝓛 at_mem run) (((κ, tt), (q, tt), tt, x, at), tt) vunit tt (zs, tt) (length-map ys without_mark, tt)) $ says ! refl $
       nothing ! $ move ! (3 ∷ 0 ∷ []) $ join ! $ frame ! $
-      fjoin ! $ pure_i ! (mut_slice_at T.the_row (record { ref_ptr = (b, o); ghost_name = γ; now = zs }) at.0) (tt, (tt, tt)) (ap (λ (m : ℕ). slice_val (b, o) m ∷ []) (sym (length-map ys without-mark)), subst (Room T.the_row) (sym (length-map ys without-mark)) room) $ fjoin ! $
+      fjoin ! $ pure_i ! (mut_slice_at T.the_row (record { ref_ptr = (b, o); ghost_name = γ; now = zs }) at.0) (tt, (tt, tt)) (ap (λ (m : ℕ). slice_val (b, o) m ∷ []) (sym (length-map ys without_mark)), subst (Room T.the_row) (sym (length-map ys without_mark)) room) $ fjoin ! $
       nothing ! $ move ! (1 ∷ 0 ∷ []) $ fjoin ! $ frame ! $ feq_i ! (List Val) (vunit ∷ []) (vunit ∷ []) refl $ done !
 
   -- the call
@@ -118,8 +118,8 @@ module _ {M : Type 1} {𝓤 : Ura M} (𝓛 : Logic 𝓤) (at_mem : Memory → SP
   goes : (d : Record) → Is T.the_row d (mach d ∷ []) → ent 𝓤 (emp 𝓤) ((Core 𝓛 at_mem run).pre (to-core d))
   goes d g = qed 𝓛 [] ∵ nothing ! $ owned ! T.the_row (Is T.the_row) (LL.makes T.the_type T'.the_plain 𝓛) d _ g $ fjoin ! $ nothing ! $ join ! $ frame ! $ done !
 
-  of-core : (d r : Record) → ent 𝓤 (ensured 𝓛 core.ended (core.clauses 𝓛 at_mem run) tt (d, tt) tt r) (fact 𝓤 (r ≡ without-mark d))
-  of-core d r = ex_e 𝓤 _ (λ ws. snd∗ 𝓤 (sem 𝓛 (lasts core.ended tt (d, tt) ws)) (fact 𝓤 (r ≡ without-mark d)))
+  of-core : (d r : Record) → ent 𝓤 (ensured 𝓛 core.ended (core.clauses 𝓛 at_mem run) tt (d, tt) tt r) (fact 𝓤 (r ≡ without_mark d))
+  of-core d r = ex_e 𝓤 _ (λ ws. snd∗ 𝓤 (sem 𝓛 (lasts core.ended tt (d, tt) ws)) (fact 𝓤 (r ≡ without_mark d)))
 
   -- the loop's variant
   abbrev Upto : Type 0
@@ -162,7 +162,7 @@ module _ {M : Type 1} {𝓤 : Ura M} (𝓛 : Logic 𝓤) (at_mem : Memory → SP
         use0 𝓛 (raw ((Core 𝓛 at_mem run).pre (to-core (elem i.0)))) (goes (elem i.0) g) $
         calls_at ! fm (Core 𝓛 at_mem run) known (to-core (elem i.0)) (and_then ! (load ! (from ! (stop !)) (look ! 11 refl)) (no_more !)) (λ w.
         use1 𝓛 (later (some (λ (r : Record). (‵ ftrue ⊛ ‵ ((T.the_row).own_val r (w ∷ []))) ⊛ raw (ensured 𝓛 core.ended (core.clauses 𝓛 at_mem run) tt (elem i.0, tt) tt r)))) (id⊢ 𝓤 _) $ await ! tt $ pick ! (λ r.
-        split ! $ move ! (1 ∷ []) $ use1 𝓛 (raw (fact 𝓤 (r ≡ without-mark (elem i.0)))) (of-core (elem i.0) r) $ heard ! (r ≡ without-mark (elem i.0)) (λ e. split ! $ drop ! $
+        split ! $ move ! (1 ∷ []) $ use1 𝓛 (raw (fact 𝓤 (r ≡ without_mark (elem i.0)))) (of-core (elem i.0) r) $ heard ! (r ≡ without_mark (elem i.0)) (λ e. split ! $ drop ! $
         peeks ! T.the_row (Is T.the_row) (shows 𝓛 T.the_row) r (w ∷ []) (λ is.
         land ! (from ! (stop !)) (init ! 15 refl ((LL.lawful T.the_type T'.the_laws 𝓛).typed r _ is).0) $ rewrite ! 15 (λ (u : Val). ‵ (fat full_share T'.mir l₅ 0 u)) (ap only (LL.tells T.the_type T'.the_laws r _ is)) refl $ drop ! $
         assigns ! (bin ! (load ! (from ! (stop !)) (look ! 20 refl)) (lit ! tt) (record { fits = place-fits less })) (from ! (stop !)) (init ! 8 refl (tt, record { fits = place-fits less })) $
@@ -173,12 +173,12 @@ module _ {M : Type 1} {𝓤 : Ura M} (𝓛 : Logic 𝓤) (at_mem : Memory → SP
         elem_put ! T.the_row full_share (upto i.0) i.0 r (mach r ∷ []) b o (inside less) $
         assigns_last ! (bin ! (load ! (from ! (stop !)) (look ! 18 refl)) (lit ! tt) (record { fits = next_fits less })) (from ! (stop !)) (store ! 18 refl (tt, record { fits = next_fits less })) $
         forget ! 16 refl $ forget ! 14 refl $ forget ! 12 refl $ forget ! 10 refl $ forget ! 8 refl $ forget ! 6 refl $ forget ! 4 refl $
-        rewrite ! 0 (λ (l : List Record). ‵ (row T.the_row full_share l b o)) (one-turn without-mark i.0 no_record r ys e) refl $
+        rewrite ! 0 (λ (l : List Record). ‵ (row T.the_row full_share l b o)) (one_turn without_mark i.0 no_record r ys e) refl $
         keep ! (0 ∷ 1 ∷ 2 ∷ 3 ∷ 4 ∷ 5 ∷ 6 ∷ 7 ∷ 8 ∷ 9 ∷ 10 ∷ 11 ∷ 12 ∷ 13 ∷ 14 ∷ 15 ∷ 16 ∷ 17 ∷ 18 ∷ 19 ∷ 20 ∷ 21 ∷ 22 ∷ 23 ∷ []) $
         again ! Nearer At i (next less) (add-one-dec (length ys) i.0 (ltb→lt i.0 (length ys) less))))))))
         (λ over. jumps ! $ exec ! C Λ En pieces.t-3 (at_ret En Post) $
-        rewrite ! 0 (λ (l : List Record). ‵ (row T.the_row full_share l b o)) (all-by without-mark i.0 ys (nltb→le i.0 (length ys) over)) refl $
-        closes_slice ! tt T.the_row ys zs (length-map ys without-mark) b o $ assigns ! (of_opd ! (unit_lit !)) (from ! (stop !)) (init ! 21 refl (tt, tt)) $ returns ! (look ! 21 refl) $ forget ! 21 refl $
+        rewrite ! 0 (λ (l : List Record). ‵ (row T.the_row full_share l b o)) (all_by without_mark i.0 ys (nltb→le i.0 (length ys) over)) refl $
+        closes_slice ! tt T.the_row ys zs (length-map ys without_mark) b o $ assigns ! (of_opd ! (unit_lit !)) (from ! (stop !)) (init ! 21 refl (tt, tt)) $ returns ! (look ! 21 refl) $ forget ! 21 refl $
         forget ! 19 refl $ forget ! 17 refl $ forget ! 15 refl $ forget ! 13 refl $ move ! (21 ∷ 22 ∷ []) $ free1 ! $ move ! (19 ∷ 20 ∷ []) $ free1 ! $ move ! (17 ∷ 18 ∷ []) $ free1 ! $
         move ! (15 ∷ 16 ∷ []) $ free1 ! $ move ! (13 ∷ 14 ∷ []) $ free1 ! $ move ! (11 ∷ 12 ∷ []) $ free1 ! $ move ! (9 ∷ 10 ∷ []) $ free1 ! $ move ! (7 ∷ 8 ∷ []) $ free1 ! $ move ! (5 ∷ 6 ∷ []) $ free1 ! $
         move ! (3 ∷ 4 ∷ []) $ free1 ! $ free0 ! $ keep ! (0 ∷ 1 ∷ 2 ∷ []) $ by ! exits)
@@ -190,10 +190,10 @@ module _ {M : Type 1} {𝓤 : Ura M} (𝓛 : Logic 𝓤) (at_mem : Memory → SP
         next_fits less = lt_of_le_of_lt (next less).1 room.0
 
         place-fits : Holds (ltb i.0 (length ys)) → i.0 * 16 < 2 ^ 64
-        place-fits less = offset-fits i.0 (length ys) (ltb→lt i.0 (length ys) less) room.1
+        place-fits less = offset_fits i.0 (length ys) (ltb→lt i.0 (length ys) less) room.1
 
         inside : Holds (ltb i.0 (length ys)) → i.0 < length (upto i.0)
-        inside less = subst (λ (m : ℕ). i.0 < m) (sym (first-length without-mark i.0 ys)) (ltb→lt i.0 (length ys) less)
+        inside less = subst (λ (m : ℕ). i.0 < m) (sym (first_length without_mark i.0 ys)) (ltb→lt i.0 (length ys) less)
 
   walk : (𝓣 : Tables 𝓤 H) → FmC 𝓤 H 𝓛.laws 𝓣.C → Triple 𝓤 (𝓣.C #lookup·unmark) (Core 𝓛 at_mem run) → ent 𝓤 (on_entry 𝓛 f.signature (κ, tt) (q, tt) x at) (WpFn 𝓤 H 𝓣.C 𝓣.Λ code.function (slice_val (b, o) (length ys) ∷ []) Post)
   walk 𝓣 fm known =
@@ -201,7 +201,7 @@ module _ {M : Type 1} {𝓤 : Ura M} (𝓛 : Logic 𝓤) (at_mem : Memory → SP
       alloc1 ! (λ l₂. alloc1 ! (λ l₃. alloc1 ! (λ l₄. alloc1 ! (λ l₅. alloc1 ! (λ l₆. alloc1 ! (λ l₇. alloc1 ! (λ l₈. alloc1 ! (λ l₉. alloc0 ! $ params1 ! $
       pass1 ! (init ! 16 refl (tt, (tt, (record { fits = room.0 }, tt)))) $ pass0 ! $ assigns ! (of_opd ! (lit ! tt)) (from ! (stop !)) (init ! 14 refl (tt, record { fits = lit< tt })) $ move ! (21 ∷ []) $
       fsplit ! $ fsplit ! $ move ! (1 ∷ []) $ fsplit ! $ move ! (24 ∷ []) $ split ! $ move ! (2 ∷ 3 ∷ 0 ∷ []) $ opens_slice ! tt T.the_row ys b o $
-      rewrite ! 0 (λ (l : List Record). ‵ (row T.the_row full_share l b o)) (none-by without-mark ys) refl $
+      rewrite ! 0 (λ (l : List Record). ‵ (row T.the_row full_share l b o)) (none_by without_mark ys) refl $
       keep ! (0 ∷ 1 ∷ 2 ∷ 3 ∷ 7 ∷ 8 ∷ 9 ∷ 10 ∷ 11 ∷ 12 ∷ 13 ∷ 14 ∷ 15 ∷ 16 ∷ 17 ∷ 18 ∷ 19 ∷ 20 ∷ 21 ∷ 22 ∷ 23 ∷ 24 ∷ 25 ∷ 26 ∷ []) $
       first ! $ blocks ! $ loops ! 𝓣 Nearer Nearer-wf (At 𝓣 fm known l₀ l₁ l₂ l₃ l₄ l₅ l₆ l₇ l₈ l₉) (turns 𝓣 fm known l₀ l₁ l₂ l₃ l₄ l₅ l₆ l₇ l₈ l₉) (0, zero-le)))))))))))
 
@@ -224,4 +224,4 @@ clear_spec 𝓤 𝓛 𝓜 𝓡 =
     entered 𝓤 𝓛.H (triple_of 𝓛 f.signature (f.spec 𝓛 𝓜.mem 𝓡.run))
     (tables 𝓤 𝓛.H 𝓜 𝓡 code.env).C (tables 𝓤 𝓛.H 𝓜 𝓡 code.env).Λ #lookup·clear code.function (code.unfolded 𝓤 𝓛.H 𝓜 𝓡)
     (f_meets 𝓛 𝓜.mem 𝓡.run (tables_of 𝓤 𝓛.H 𝓜 (tables 𝓤 𝓛.H 𝓜 𝓡 code.env))
-    (cited 𝓤 𝓛.H (Core 𝓛 𝓜.mem 𝓡.run) 𝓜 𝓡 code.env #lookup·unmark core-symbol.routine code.calls-lookup::unmark (core-met.met 𝓤 𝓛 𝓜 𝓡)))
+    (cited 𝓤 𝓛.H (Core 𝓛 𝓜.mem 𝓡.run) 𝓜 𝓡 code.env #lookup·unmark core_symbol.routine code.calls-lookup::unmark (core_met.met 𝓤 𝓛 𝓜 𝓡)))

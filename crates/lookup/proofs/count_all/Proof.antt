@@ -44,11 +44,11 @@ use denote.Triple.Clauses.{ensured, lasts}
 use denote.Triple.Table.{entered, cited}
 use denote.Triple.Walked.{says, Stays, stay_slice, stay_none, walk_of, Goes-slice, Goes-none, Walks, ends_at, walked, walk_Meets}
 use denote.Exit.{yes}
-use Rattle.lookup.specs.Lookup.{no_record, tallied, tallied-all}
+use Rattle.lookup.specs.Lookup.{no_record, tallied, tallied_all}
 use Rattle.lookup.specs.declared.Record.{Record}
-use Rattle.lookup.proofs.Place.{offset-fits}
+use Rattle.lookup.proofs.Place.{offset_fits}
 use Rattle.lookup.proofs.Parts.{after, ty_at}
-use Rattle.lookup.proofs.Counts.{tally-sofar, tally-none, tally-turn, tally-all}
+use Rattle.lookup.proofs.Counts.{tally_sofar, tally_none, tally_turn, tally_all}
 use Rattle.lookup.specs.contracts.Record as T
 use Rattle.lookup.proofs.Record.TheLaws as T'
 use Rattle.lookup.specs.declared.Tally.{Tally}
@@ -108,7 +108,7 @@ module _ {M : Type 1} {𝓤 : Ura M} (𝓛 : Logic 𝓤) (at_mem : Memory → SP
   typed-s : (d : Tally) → Fits d → Holds (has_ty S'.mir (mach-s d)) × WT (mach-s d)
   typed-s d g = ((LL.lawful S.the_type S'.the_laws 𝓛).typed d _ g).0
 
-  exits : (r : Tally) → r ≡ tallied-all s ys → Fits r → ent 𝓤 (⋆ 𝓛 (‵ (fobs γ ((coded_holeys T.the_row).code (heres T.the_row ys))) ∷ ‵ (fbor κ (Held T.the_row (length ys) b o γ)) ∷ ‵ (flft κ q) ∷ [])) (Post (mach-s r))
+  exits : (r : Tally) → r ≡ tallied_all s ys → Fits r → ent 𝓤 (⋆ 𝓛 (‵ (fobs γ ((coded_holeys T.the_row).code (heres T.the_row ys))) ∷ ‵ (fbor κ (Held T.the_row (length ys) b o γ)) ∷ ‵ (flft κ q) ∷ [])) (Post (mach-s r))
   exits r e g =
       qed 𝓛 (‵ (fobs γ ((coded_holeys T.the_row).code (heres T.the_row ys))) ∷ ‵ (fbor κ (Held T.the_row (length ys) b o γ)) ∷ ‵ (flft κ q) ∷ []) ∵
       suffices ! _ (ends_at 𝓛 f.ended stayed (f.clauses 𝓛 at_mem run) (((κ, tt), (q, tt), tt, x, at), tt) (mach-s r) r (ys, (tt, tt)) (refl, (tt, tt))) $ says ! (e, refl) $
@@ -129,7 +129,7 @@ module _ {M : Type 1} {𝓤 : Ura M} (𝓛 : Logic 𝓤) (at_mem : Memory → SP
 
   -- the loop's variant: how far it is, and that what is found so far is a value of its type
   abbrev Upto : Type 0
-  Upto = (i : ℕ) × ((i ≤ length ys) × Fits (tally-sofar s i ys))
+  Upto = (i : ℕ) × ((i ≤ length ys) × Fits (tally_sofar s i ys))
 
   abbrev Nearer : Upto → Upto → Type 0
   Nearer j i = length ys - j.0 < length ys - i.0
@@ -148,7 +148,7 @@ module _ {M : Type 1} {𝓤 : Ura M} (𝓛 : Logic 𝓤) (at_mem : Memory → SP
     En = (ty 0, l₀) ∷ (ty 1, l₁) ∷ (ty 2, l₂) ∷ (ty 3, l₃) ∷ (ty 4, l₄) ∷ (ty 5, l₅) ∷ (ty 6, l₆) ∷ (ty 7, l₇) ∷ (ty 8, l₈) ∷ []
 
     abbrev At : Upto → List (Item 𝓤)
-    At i = ‵ (row T.the_row full_share ys b o) ∷ ‵ (fobor κ q (Held T.the_row (length ys) b o γ)) ∷ ‵ (fobs γ ((coded_holeys T.the_row).code (heres T.the_row ys))) ∷ ‵ (fauth γ ((coded_holeys T.the_row).code (heres T.the_row ys))) ∷ ‵ (froom (ty 8) l₈ 0) ∷ ‵ (fdies (ty 8) l₈) ∷ ‵ (froom (ty 7) l₇ 0) ∷ ‵ (fdies (ty 7) l₇) ∷ ‵ (froom (ty 6) l₆ 0) ∷ ‵ (fdies (ty 6) l₆) ∷ ‵ (froom (ty 5) l₅ 0) ∷ ‵ (fdies (ty 5) l₅) ∷ ‵ (fat full_share (ty 4) l₄ 0 (vint w64 i.0)) ∷ ‵ (fdies (ty 4) l₄) ∷ ‵ (fat full_share (ty 3) l₃ 0 (mach-s (tally-sofar s i.0 ys))) ∷ ‵ (fdies (ty 3) l₃) ∷ ‵ (fat full_share (ty 2) l₂ 0 (mach-s s)) ∷ ‵ (fdies (ty 2) l₂) ∷ ‵ (fat full_share (ty 1) l₁ 0 (slice_val (b, o) (length ys))) ∷ ‵ (fdies (ty 1) l₁) ∷ ‵ (froom (ty 0) l₀ 0) ∷ ‵ (fdies (ty 0) l₀) ∷ []
+    At i = ‵ (row T.the_row full_share ys b o) ∷ ‵ (fobor κ q (Held T.the_row (length ys) b o γ)) ∷ ‵ (fobs γ ((coded_holeys T.the_row).code (heres T.the_row ys))) ∷ ‵ (fauth γ ((coded_holeys T.the_row).code (heres T.the_row ys))) ∷ ‵ (froom (ty 8) l₈ 0) ∷ ‵ (fdies (ty 8) l₈) ∷ ‵ (froom (ty 7) l₇ 0) ∷ ‵ (fdies (ty 7) l₇) ∷ ‵ (froom (ty 6) l₆ 0) ∷ ‵ (fdies (ty 6) l₆) ∷ ‵ (froom (ty 5) l₅ 0) ∷ ‵ (fdies (ty 5) l₅) ∷ ‵ (fat full_share (ty 4) l₄ 0 (vint w64 i.0)) ∷ ‵ (fdies (ty 4) l₄) ∷ ‵ (fat full_share (ty 3) l₃ 0 (mach-s (tally_sofar s i.0 ys))) ∷ ‵ (fdies (ty 3) l₃) ∷ ‵ (fat full_share (ty 2) l₂ 0 (mach-s s)) ∷ ‵ (fdies (ty 2) l₂) ∷ ‵ (fat full_share (ty 1) l₁ 0 (slice_val (b, o) (length ys))) ∷ ‵ (fdies (ty 1) l₁) ∷ ‵ (froom (ty 0) l₀ 0) ∷ ‵ (fdies (ty 0) l₀) ∷ []
 
     abbrev Turned : Upto → Out → SProp 𝓤
     Turned i = after_turn 𝓤 H (Below 𝓛 Nearer At i) (after_block 𝓤 H (after_seq 𝓤 H (Wp 𝓤 H C Λ En pieces.t-4 (at_return 𝓤 H En Post)) (at_return 𝓤 H En Post)))
@@ -166,10 +166,10 @@ module _ {M : Type 1} {𝓤 : Ura M} (𝓛 : Logic 𝓤) (at_mem : Memory → SP
         elem_out ! T.the_row (Is T.the_row) (shows 𝓛 T.the_row) (LL.vals T.the_type T'.the_laws) (LL.tells T.the_type T'.the_laws) full_share ys i.0 no_record b o (inside less) (λ g.
         assigns ! (of_opd ! (load ! (from ! (hop ! (look ! 8 refl) (stop !))) (look_raw ! 0 refl))) (from ! (stop !)) (init ! 6 refl (typed (elem i.0) g)) $
         elem_back ! T.the_row full_share ys i.0 no_record (mach (elem i.0) ∷ []) b o (inside less) $
-        use0 𝓛 (raw ((Core 𝓛 at_mem run).pre (to-core (tally-sofar s i.0 ys) (elem i.0)))) (goes (tally-sofar s i.0 ys) (elem i.0) i.1.1 g) $
-        calls_at ! fm (Core 𝓛 at_mem run) known (to-core (tally-sofar s i.0 ys) (elem i.0)) (and_then ! (load ! (from ! (stop !)) (look ! 15 refl)) (and_then ! (load ! (from ! (stop !)) (look ! 5 refl)) (no_more !))) (λ w.
-        use1 𝓛 (later (some (λ (r : Tally). (‵ ftrue ⊛ ‵ ((S.the_row).own_val r (w ∷ []))) ⊛ raw (ensured 𝓛 core.ended (core.clauses 𝓛 at_mem run) tt (tally-sofar s i.0 ys, (elem i.0, tt)) tt r)))) (id⊢ 𝓤 _) $ await ! tt $ pick ! (λ r.
-        split ! $ move ! (1 ∷ []) $ use1 𝓛 (raw (fact 𝓤 (r ≡ tallied (tally-sofar s i.0 ys) (elem i.0)))) (of-core (tally-sofar s i.0 ys) (elem i.0) r) $ heard ! (r ≡ tallied (tally-sofar s i.0 ys) (elem i.0)) (λ e. split ! $ drop ! $
+        use0 𝓛 (raw ((Core 𝓛 at_mem run).pre (to-core (tally_sofar s i.0 ys) (elem i.0)))) (goes (tally_sofar s i.0 ys) (elem i.0) i.1.1 g) $
+        calls_at ! fm (Core 𝓛 at_mem run) known (to-core (tally_sofar s i.0 ys) (elem i.0)) (and_then ! (load ! (from ! (stop !)) (look ! 15 refl)) (and_then ! (load ! (from ! (stop !)) (look ! 5 refl)) (no_more !))) (λ w.
+        use1 𝓛 (later (some (λ (r : Tally). (‵ ftrue ⊛ ‵ ((S.the_row).own_val r (w ∷ []))) ⊛ raw (ensured 𝓛 core.ended (core.clauses 𝓛 at_mem run) tt (tally_sofar s i.0 ys, (elem i.0, tt)) tt r)))) (id⊢ 𝓤 _) $ await ! tt $ pick ! (λ r.
+        split ! $ move ! (1 ∷ []) $ use1 𝓛 (raw (fact 𝓤 (r ≡ tallied (tally_sofar s i.0 ys) (elem i.0)))) (of-core (tally_sofar s i.0 ys) (elem i.0) r) $ heard ! (r ≡ tallied (tally_sofar s i.0 ys) (elem i.0)) (λ e. split ! $ drop ! $
         peeks ! S.the_row (Is S.the_row) (shows 𝓛 S.the_row) r (w ∷ []) (λ is.
         land ! (from ! (stop !)) (store ! 15 refl ((LL.lawful S.the_type S'.the_laws 𝓛).typed r _ is).0) $ rewrite ! 15 (λ (u : Val). ‵ (fat full_share S'.mir l₃ 0 u)) (ap only (LL.tells S.the_type S'.the_laws r _ is)) refl $
         rewrite ! 15 (λ (u : Tally). ‵ (fat full_share S'.mir l₃ 0 (mach-s u))) (next-is less r e) refl $ drop ! $
@@ -177,10 +177,10 @@ module _ {M : Type 1} {𝓤 : Ura M} (𝓛 : Logic 𝓤) (at_mem : Memory → SP
         forget ! 10 refl $ forget ! 8 refl $ forget ! 6 refl $ forget ! 4 refl $ keep ! (0 ∷ 1 ∷ 2 ∷ 3 ∷ 4 ∷ 5 ∷ 6 ∷ 7 ∷ 8 ∷ 9 ∷ 10 ∷ 11 ∷ 12 ∷ 13 ∷ 14 ∷ 15 ∷ 16 ∷ 17 ∷ 18 ∷ 19 ∷ 20 ∷ 21 ∷ []) $
         again ! Nearer At i (next less r e (told r w is)) (add-one-dec (length ys) i.0 (ltb→lt i.0 (length ys) less))))))))
         (λ over. jumps ! $ exec ! C Λ En pieces.t-4 (at_ret En Post) $ closes_slice ! tt T.the_row ys ys refl b o $
-        assigns ! (of_opd ! (load ! (from ! (stop !)) (look ! 13 refl))) (from ! (stop !)) (init ! 19 refl (typed-s (tally-sofar s i.0 ys) i.1.1)) $ returns ! (look ! 19 refl) $ forget ! 19 refl $
+        assigns ! (of_opd ! (load ! (from ! (stop !)) (look ! 13 refl))) (from ! (stop !)) (init ! 19 refl (typed-s (tally_sofar s i.0 ys) i.1.1)) $ returns ! (look ! 19 refl) $ forget ! 19 refl $
         forget ! 17 refl $ forget ! 15 refl $ forget ! 13 refl $ forget ! 11 refl $ forget ! 9 refl $ forget ! 7 refl $ move ! (19 ∷ 20 ∷ []) $ free1 ! $ move ! (17 ∷ 18 ∷ []) $ free1 ! $
         move ! (15 ∷ 16 ∷ []) $ free1 ! $ move ! (13 ∷ 14 ∷ []) $ free1 ! $ move ! (11 ∷ 12 ∷ []) $ free1 ! $ move ! (9 ∷ 10 ∷ []) $ free1 ! $ move ! (7 ∷ 8 ∷ []) $ free1 ! $ move ! (5 ∷ 6 ∷ []) $ free1 ! $
-        move ! (3 ∷ 4 ∷ []) $ free1 ! $ free0 ! $ keep ! (0 ∷ 1 ∷ 2 ∷ []) $ by ! (exits (tally-sofar s i.0 ys) (tally-all s i.0 ys (nltb→le i.0 (length ys) over)) i.1.1))
+        move ! (3 ∷ 4 ∷ []) $ free1 ! $ free0 ! $ keep ! (0 ∷ 1 ∷ 2 ∷ []) $ by ! (exits (tally_sofar s i.0 ys) (tally_all s i.0 ys (nltb→le i.0 (length ys) over)) i.1.1))
       where
         within : Holds (ltb i.0 (length ys)) → i.0 + 1 ≤ length ys
         within less = add-one-le (ltb→lt i.0 (length ys) less)
@@ -189,15 +189,15 @@ module _ {M : Type 1} {𝓤 : Ura M} (𝓛 : Logic 𝓤) (at_mem : Memory → SP
         next_fits less = lt_of_le_of_lt (within less) room.0
 
         place-fits : Holds (ltb i.0 (length ys)) → i.0 * 16 < 2 ^ 64
-        place-fits less = offset-fits i.0 (length ys) (ltb→lt i.0 (length ys) less) room.1
+        place-fits less = offset_fits i.0 (length ys) (ltb→lt i.0 (length ys) less) room.1
 
         inside : Holds (ltb i.0 (length ys)) → i.0 < length ys
         inside less = ltb→lt i.0 (length ys) less
 
-        next-is : Holds (ltb i.0 (length ys)) → (r : Tally) → r ≡ tallied (tally-sofar s i.0 ys) (elem i.0) → r ≡ tally-sofar s (i.0 + 1) ys
-        next-is less r e = tally-turn s i.0 no_record r ys (inside less) e
+        next-is : Holds (ltb i.0 (length ys)) → (r : Tally) → r ≡ tallied (tally_sofar s i.0 ys) (elem i.0) → r ≡ tally_sofar s (i.0 + 1) ys
+        next-is less r e = tally_turn s i.0 no_record r ys (inside less) e
 
-        next : Holds (ltb i.0 (length ys)) → (r : Tally) → r ≡ tallied (tally-sofar s i.0 ys) (elem i.0) → Fits r → Upto
+        next : Holds (ltb i.0 (length ys)) → (r : Tally) → r ≡ tallied (tally_sofar s i.0 ys) (elem i.0) → Fits r → Upto
         next less r e g = (i.0 + 1, (within less, subst Fits (next-is less r e) g))
 
   walk : (𝓣 : Tables 𝓤 H) → FmC 𝓤 H 𝓛.laws 𝓣.C → Triple 𝓤 (𝓣.C #lookup·tally-one) (Core 𝓛 at_mem run) → ent 𝓤 (on_entry 𝓛 f.signature (κ, tt) (q, tt) x at) (WpFn 𝓤 H 𝓣.C 𝓣.Λ code.function (slice_val (b, o) (length ys) ∷ mach-s s ∷ []) Post)
@@ -206,10 +206,10 @@ module _ {M : Type 1} {𝓤 : Ura M} (𝓛 : Logic 𝓤) (at_mem : Memory → SP
       alloc1 ! (λ l₀. alloc1 ! (λ l₁. alloc1 ! (λ l₂. alloc1 ! (λ l₃. alloc1 ! (λ l₄. alloc1 ! (λ l₅. alloc1 ! (λ l₆. alloc1 ! (λ l₇. alloc1 ! (λ l₈. alloc0 ! $ params1 ! $
       pass1 ! (init ! 14 refl (tt, (tt, (record { fits = room.0 }, tt)))) $ pass1 ! (init ! 12 refl (typed-s s gs)) $ pass0 ! $
       assigns ! (of_opd ! (load ! (from ! (stop !)) (look ! 12 refl))) (from ! (stop !)) (init ! 10 refl (typed-s s gs)) $
-      assigns ! (of_opd ! (lit ! tt)) (from ! (stop !)) (init ! 8 refl (tt, record { fits = lit< tt })) $ rewrite ! 10 (λ (u : Tally). ‵ (fat full_share S'.mir l₃ 0 (mach-s u))) (tally-none s ys) refl $
+      assigns ! (of_opd ! (lit ! tt)) (from ! (stop !)) (init ! 8 refl (tt, record { fits = lit< tt })) $ rewrite ! 10 (λ (u : Tally). ‵ (fat full_share S'.mir l₃ 0 (mach-s u))) (tally_none s ys) refl $
       move ! (19 ∷ []) $ fsplit ! $ fsplit ! $ move ! (1 ∷ []) $ fsplit ! $ move ! (22 ∷ []) $ split ! $ move ! (2 ∷ 3 ∷ 0 ∷ []) $ opens_slice ! tt T.the_row ys b o $
       keep ! (0 ∷ 1 ∷ 2 ∷ 3 ∷ 7 ∷ 8 ∷ 9 ∷ 10 ∷ 11 ∷ 12 ∷ 13 ∷ 14 ∷ 15 ∷ 16 ∷ 17 ∷ 18 ∷ 19 ∷ 20 ∷ 21 ∷ 22 ∷ 23 ∷ 24 ∷ []) $
-      first ! $ blocks ! $ loops ! 𝓣 Nearer Nearer-wf (At 𝓣 fm known l₀ l₁ l₂ l₃ l₄ l₅ l₆ l₇ l₈) (turns 𝓣 fm known l₀ l₁ l₂ l₃ l₄ l₅ l₆ l₇ l₈) (0, (zero-le, subst Fits (tally-none s ys) gs)))))))))))
+      first ! $ blocks ! $ loops ! 𝓣 Nearer Nearer-wf (At 𝓣 fm known l₀ l₁ l₂ l₃ l₄ l₅ l₆ l₇ l₈) (turns 𝓣 fm known l₀ l₁ l₂ l₃ l₄ l₅ l₆ l₇ l₈) (0, (zero-le, subst Fits (tally_none s ys) gs)))))))))))
 
 module _ {M : Type 1} {𝓤 : Ura M} (𝓛 : Logic 𝓤) (at_mem : Memory → SProp 𝓤) (run : Routine → Fun 𝓤) (𝓣 : Tables 𝓤 𝓛.H) (known : Triple 𝓤 (𝓣.C #lookup·tally-one) (Core 𝓛 at_mem run)) where
   open 𝓛 use {H}
@@ -230,4 +230,4 @@ count-all-spec 𝓤 𝓛 𝓜 𝓡 =
     entered 𝓤 𝓛.H (triple_of 𝓛 f.signature (f.spec 𝓛 𝓜.mem 𝓡.run))
     (tables 𝓤 𝓛.H 𝓜 𝓡 code.env).C (tables 𝓤 𝓛.H 𝓜 𝓡 code.env).Λ #lookup·count-all code.function (code.unfolded 𝓤 𝓛.H 𝓜 𝓡)
     (f_meets 𝓛 𝓜.mem 𝓡.run (tables_of 𝓤 𝓛.H 𝓜 (tables 𝓤 𝓛.H 𝓜 𝓡 code.env))
-    (cited 𝓤 𝓛.H (Core 𝓛 𝓜.mem 𝓡.run) 𝓜 𝓡 code.env #lookup·tally-one core-symbol.routine code.calls-lookup::tally-one (core-met.met 𝓤 𝓛 𝓜 𝓡)))
+    (cited 𝓤 𝓛.H (Core 𝓛 𝓜.mem 𝓡.run) 𝓜 𝓡 code.env #lookup·tally-one core_symbol.routine code.calls-lookup::tally-one (core_met.met 𝓤 𝓛 𝓜 𝓡)))

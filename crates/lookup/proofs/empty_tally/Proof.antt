@@ -5,7 +5,7 @@ use Rattle.lookup.proofs.empty_tally.Statement.{statement}
 use Rattle.lookup.proofs.empty_tally.Tie as tie
 
 returns : tie.Need-returns
-unfolding Close.no-tally
+unfolding Close.no_tally
 returns c = refl
 
 pub empty-tally-spec : {M : Type 1} → statement M

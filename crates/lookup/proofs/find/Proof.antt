@@ -46,9 +46,9 @@ use denote.Triple.Walked.{says, Stays, stay_slice, stay_none, walk_of, Goes-slic
 use denote.Exit.{yes}
 use Rattle.lookup.specs.Lookup.{no_record, seen, searched}
 use Rattle.lookup.specs.declared.Record.{Record}
-use Rattle.lookup.proofs.Place.{offset-fits}
+use Rattle.lookup.proofs.Place.{offset_fits}
 use Rattle.lookup.proofs.Parts.{after, ty_at}
-use Rattle.lookup.proofs.Lists.{sofar, fold-none, fold-turn, fold-all, fold-hit}
+use Rattle.lookup.proofs.Lists.{sofar, fold_none, fold_turn, fold_all, fold_hit}
 use Rattle.lookup.specs.contracts.Record as T
 use Rattle.lookup.proofs.Record.TheLaws as T'
 use Rattle.lookup.specs.declared.Search.{Search}
@@ -180,7 +180,7 @@ module _ {M : Type 1} {𝓤 : Ura M} (𝓛 : Logic 𝓤) (at_mem : Memory → SP
         returns_within ! Post refl (look ! 19 refl) $ forget ! 19 refl $ forget ! 17 refl $ forget ! 15 refl $ forget ! 13 refl $ forget ! 11 refl $ forget ! 9 refl $ forget ! 7 refl $ forget ! 5 refl $
         forget ! 3 refl $ move ! (19 ∷ 20 ∷ []) $ free1 ! $ move ! (17 ∷ 18 ∷ []) $ free1 ! $ move ! (15 ∷ 16 ∷ []) $ free1 ! $ move ! (13 ∷ 14 ∷ []) $ free1 ! $ move ! (11 ∷ 12 ∷ []) $ free1 ! $
         move ! (9 ∷ 10 ∷ []) $ free1 ! $ move ! (7 ∷ 8 ∷ []) $ free1 ! $ move ! (5 ∷ 6 ∷ []) $ free1 ! $ move ! (3 ∷ 4 ∷ []) $ free1 ! $ free0 ! $ keep ! (0 ∷ 1 ∷ 2 ∷ []) $
-        by ! (exits (sofar s (i.0 + 1) ys) (fold-hit s (i.0 + 1) ys hit) (next less r e (told r w is)).1.1))
+        by ! (exits (sofar s (i.0 + 1) ys) (fold_hit s (i.0 + 1) ys hit) (next less r e (told r w is)).1.1))
         (λ none. skips ! $ exec ! C Λ En (after 9 pieces.turn-1) (any_q (Turned i)) $
         assigns_last ! (bin ! (load ! (from ! (stop !)) (look ! 12 refl)) (lit ! tt) (record { fits = next_fits less })) (from ! (stop !)) (store ! 12 refl (tt, record { fits = next_fits less })) $
         forget ! 10 refl $ forget ! 8 refl $ forget ! 6 refl $ forget ! 4 refl $ keep ! (0 ∷ 1 ∷ 2 ∷ 3 ∷ 4 ∷ 5 ∷ 6 ∷ 7 ∷ 8 ∷ 9 ∷ 10 ∷ 11 ∷ 12 ∷ 13 ∷ 14 ∷ 15 ∷ 16 ∷ 17 ∷ 18 ∷ 19 ∷ 20 ∷ 21 ∷ []) $
@@ -189,7 +189,7 @@ module _ {M : Type 1} {𝓤 : Ura M} (𝓛 : Logic 𝓤) (at_mem : Memory → SP
         assigns ! (of_opd ! (load ! (from ! (stop !)) (look ! 13 refl))) (from ! (stop !)) (init ! 19 refl (typed-s (sofar s i.0 ys) i.1.1)) $ returns ! (look ! 19 refl) $ forget ! 19 refl $
         forget ! 17 refl $ forget ! 15 refl $ forget ! 13 refl $ forget ! 11 refl $ forget ! 9 refl $ forget ! 7 refl $ move ! (19 ∷ 20 ∷ []) $ free1 ! $ move ! (17 ∷ 18 ∷ []) $ free1 ! $
         move ! (15 ∷ 16 ∷ []) $ free1 ! $ move ! (13 ∷ 14 ∷ []) $ free1 ! $ move ! (11 ∷ 12 ∷ []) $ free1 ! $ move ! (9 ∷ 10 ∷ []) $ free1 ! $ move ! (7 ∷ 8 ∷ []) $ free1 ! $ move ! (5 ∷ 6 ∷ []) $ free1 ! $
-        move ! (3 ∷ 4 ∷ []) $ free1 ! $ free0 ! $ keep ! (0 ∷ 1 ∷ 2 ∷ []) $ by ! (exits (sofar s i.0 ys) (fold-all s i.0 ys (nltb→le i.0 (length ys) over)) i.1.1))
+        move ! (3 ∷ 4 ∷ []) $ free1 ! $ free0 ! $ keep ! (0 ∷ 1 ∷ 2 ∷ []) $ by ! (exits (sofar s i.0 ys) (fold_all s i.0 ys (nltb→le i.0 (length ys) over)) i.1.1))
       where
         within : Holds (ltb i.0 (length ys)) → i.0 + 1 ≤ length ys
         within less = add-one-le (ltb→lt i.0 (length ys) less)
@@ -198,13 +198,13 @@ module _ {M : Type 1} {𝓤 : Ura M} (𝓛 : Logic 𝓤) (at_mem : Memory → SP
         next_fits less = lt_of_le_of_lt (within less) room.0
 
         place-fits : Holds (ltb i.0 (length ys)) → i.0 * 16 < 2 ^ 64
-        place-fits less = offset-fits i.0 (length ys) (ltb→lt i.0 (length ys) less) room.1
+        place-fits less = offset_fits i.0 (length ys) (ltb→lt i.0 (length ys) less) room.1
 
         inside : Holds (ltb i.0 (length ys)) → i.0 < length ys
         inside less = ltb→lt i.0 (length ys) less
 
         next-is : Holds (ltb i.0 (length ys)) → (r : Search) → r ≡ seen (sofar s i.0 ys) (elem i.0) → r ≡ sofar s (i.0 + 1) ys
-        next-is less r e = fold-turn s i.0 no_record r ys (inside less) e
+        next-is less r e = fold_turn s i.0 no_record r ys (inside less) e
 
         next : Holds (ltb i.0 (length ys)) → (r : Search) → r ≡ seen (sofar s i.0 ys) (elem i.0) → Fits r → Upto
         next less r e g = (i.0 + 1, (within less, subst Fits (next-is less r e) g))
@@ -215,10 +215,10 @@ module _ {M : Type 1} {𝓤 : Ura M} (𝓛 : Logic 𝓤) (at_mem : Memory → SP
       alloc1 ! (λ l₀. alloc1 ! (λ l₁. alloc1 ! (λ l₂. alloc1 ! (λ l₃. alloc1 ! (λ l₄. alloc1 ! (λ l₅. alloc1 ! (λ l₆. alloc1 ! (λ l₇. alloc1 ! (λ l₈. alloc0 ! $ params1 ! $
       pass1 ! (init ! 14 refl (tt, (tt, (record { fits = room.0 }, tt)))) $ pass1 ! (init ! 12 refl (typed-s s gs)) $ pass0 ! $
       assigns ! (of_opd ! (load ! (from ! (stop !)) (look ! 12 refl))) (from ! (stop !)) (init ! 10 refl (typed-s s gs)) $
-      assigns ! (of_opd ! (lit ! tt)) (from ! (stop !)) (init ! 8 refl (tt, record { fits = lit< tt })) $ rewrite ! 10 (λ (u : Search). ‵ (fat full_share S'.mir l₃ 0 (mach-s u))) (fold-none s ys) refl $
+      assigns ! (of_opd ! (lit ! tt)) (from ! (stop !)) (init ! 8 refl (tt, record { fits = lit< tt })) $ rewrite ! 10 (λ (u : Search). ‵ (fat full_share S'.mir l₃ 0 (mach-s u))) (fold_none s ys) refl $
       move ! (19 ∷ []) $ fsplit ! $ fsplit ! $ move ! (1 ∷ []) $ fsplit ! $ move ! (22 ∷ []) $ split ! $ move ! (2 ∷ 3 ∷ 0 ∷ []) $ opens_slice ! tt T.the_row ys b o $
       keep ! (0 ∷ 1 ∷ 2 ∷ 3 ∷ 7 ∷ 8 ∷ 9 ∷ 10 ∷ 11 ∷ 12 ∷ 13 ∷ 14 ∷ 15 ∷ 16 ∷ 17 ∷ 18 ∷ 19 ∷ 20 ∷ 21 ∷ 22 ∷ 23 ∷ 24 ∷ []) $
-      first ! $ blocks ! $ loops ! 𝓣 Nearer Nearer-wf (At 𝓣 fm known l₀ l₁ l₂ l₃ l₄ l₅ l₆ l₇ l₈) (turns 𝓣 fm known l₀ l₁ l₂ l₃ l₄ l₅ l₆ l₇ l₈) (0, (zero-le, subst Fits (fold-none s ys) gs)))))))))))
+      first ! $ blocks ! $ loops ! 𝓣 Nearer Nearer-wf (At 𝓣 fm known l₀ l₁ l₂ l₃ l₄ l₅ l₆ l₇ l₈) (turns 𝓣 fm known l₀ l₁ l₂ l₃ l₄ l₅ l₆ l₇ l₈) (0, (zero-le, subst Fits (fold_none s ys) gs)))))))))))
 
 module _ {M : Type 1} {𝓤 : Ura M} (𝓛 : Logic 𝓤) (at_mem : Memory → SProp 𝓤) (run : Routine → Fun 𝓤) (𝓣 : Tables 𝓤 𝓛.H) (known : Triple 𝓤 (𝓣.C #lookup·see) (Core 𝓛 at_mem run)) where
   open 𝓛 use {H}
@@ -239,4 +239,4 @@ find_spec 𝓤 𝓛 𝓜 𝓡 =
     entered 𝓤 𝓛.H (triple_of 𝓛 f.signature (f.spec 𝓛 𝓜.mem 𝓡.run))
     (tables 𝓤 𝓛.H 𝓜 𝓡 code.env).C (tables 𝓤 𝓛.H 𝓜 𝓡 code.env).Λ #lookup·find code.function (code.unfolded 𝓤 𝓛.H 𝓜 𝓡)
     (f_meets 𝓛 𝓜.mem 𝓡.run (tables_of 𝓤 𝓛.H 𝓜 (tables 𝓤 𝓛.H 𝓜 𝓡 code.env))
-    (cited 𝓤 𝓛.H (Core 𝓛 𝓜.mem 𝓡.run) 𝓜 𝓡 code.env #lookup·see core-symbol.routine code.calls-lookup::see (core-met.met 𝓤 𝓛 𝓜 𝓡)))
+    (cited 𝓤 𝓛.H (Core 𝓛 𝓜.mem 𝓡.run) 𝓜 𝓡 code.env #lookup·see core_symbol.routine code.calls-lookup::see (core_met.met 𝓤 𝓛 𝓜 𝓡)))

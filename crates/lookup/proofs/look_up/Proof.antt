@@ -46,7 +46,7 @@ use Rattle.lookup.specs.declared.Record.{Record}
 use Rattle.lookup.specs.declared.Search.{Search}
 use Rattle.lookup.proofs.Again.{LentAgain, lends_again, comes_back}
 use Rattle.lookup.proofs.Parts.{ty_at}
-use Rattle.lookup.proofs.Looks.{stale-says, other-says}
+use Rattle.lookup.proofs.Looks.{stale_says, other_says}
 use Rattle.lookup.specs.contracts.Record as T
 use Rattle.lookup.proofs.Record.TheLaws as T'
 use Rattle.lookup.specs.contracts.Search as S
@@ -140,7 +140,7 @@ module _ {M : Type 1} {𝓤 : Ura M} (𝓛 : Logic 𝓤) (at_mem : Memory → SP
       qed 𝓛 ((‵ (flft λ' p) ⊛ ‵ ftrue) ∷ ‵ ((MutSlice (named 0) λ' T.the_row).own_val (x δ ys) (sl ∷ [])) ∷ []) ∵ nothing ! $
       owned ! S.the_row (Is S.the_row) (LL.makes S.the_type S'.the_plain 𝓛) s _ g $ fjoin ! $ move ! (2 ∷ 0 ∷ []) $ fjoin ! $ move ! (1 ∷ 0 ∷ []) $ join ! $ frame ! $ done !
 
-  module _ (C : Calls 𝓤 H) (Λ : Loops 𝓤 H) (fm : FmC 𝓤 H 𝓛.laws C) (known-find : Triple 𝓤 (C #lookup·find) (Find 𝓛 at_mem run)) (known-touch : Triple 𝓤 (C #lookup·touch) (Touch 𝓛 at_mem run)) where
+  module _ (C : Calls 𝓤 H) (Λ : Loops 𝓤 H) (fm : FmC 𝓤 H 𝓛.laws C) (known_find : Triple 𝓤 (C #lookup·find) (Find 𝓛 at_mem run)) (known_touch : Triple 𝓤 (C #lookup·touch) (Touch 𝓛 at_mem run)) where
     module _ (l₀ l₁ l₂ l₃ l₄ l₅ l₆ l₇ l₈ l₉ l₁₀ : ℕ) where
       abbrev En : Env 𝓤 H
       En = (ty 0, l₀) ∷ (ty 1, l₁) ∷ (ty 2, l₂) ∷ (ty 3, l₃) ∷ (ty 4, l₄) ∷ (ty 5, l₅) ∷ (ty 6, l₆) ∷ (ty 7, l₇) ∷ (ty 8, l₈) ∷ (ty 9, l₉) ∷ (ty 10, l₁₀) ∷ []
@@ -163,7 +163,7 @@ module _ {M : Type 1} {𝓤 : Ura M} (𝓛 : Logic 𝓤) (at_mem : Memory → SP
           lft_new ! tt (λ ν. move ! (1 ∷ 2 ∷ []) $
           use2 𝓛 (later (some (λ (δ : GName). ‵ ((MutSlice (named 0) (ν ∷ []) T.the_row).own_val (x δ ys) (sl ∷ [])) ⊛ ‵ (LentAgain T.the_row κ (ν ∷ []) q γ b o δ ys)))) (lends_again T.the_row κ (ν ∷ []) q γ b o 𝓛 (named 0) (named 0) ys) $ await ! tt $ pick ! (λ δ. split ! $
           nothing ! $ move ! (3 ∷ 0 ∷ []) $ join ! $ use2 𝓛 (raw ((Touch 𝓛 at_mem run).pre (to-touches (ν ∷ []) full_share δ s))) (goes-touches (ν ∷ []) full_share δ s g) $
-          calls_at_last ! fm (Touch 𝓛 at_mem run) known-touch (to-touches (ν ∷ []) full_share δ s) (and_then ! (load ! (from ! (stop !)) (look ! 2 refl)) (and_then ! (load ! (from ! (stop !)) (look ! 16 refl)) (no_more !))) (λ w₂.
+          calls_at_last ! fm (Touch 𝓛 at_mem run) known_touch (to-touches (ν ∷ []) full_share δ s) (and_then ! (load ! (from ! (stop !)) (look ! 2 refl)) (and_then ! (load ! (from ! (stop !)) (look ! 16 refl)) (no_more !))) (λ w₂.
           use1 𝓛 (later (some (λ (r : Unit {0}). ((‵ (flft (ν ∷ []) full_share) ⊛ ‵ ftrue) ⊛ ‵ (unit.own_val r (w₂ ∷ []))) ⊛ raw (ensured 𝓛 touches.ended (touches.clauses 𝓛 at_mem run) (ν ∷ [], tt) (x δ ys, (s, tt)) tt r)))) (id⊢ 𝓤 _) $ await ! tt $ pick ! (λ r.
           split ! $ move ! (1 ∷ []) $ use1 𝓛 (some (λ (zs : Lasts touches.ended (ν ∷ [], tt) (x δ ys, (s, tt))). ‵ (lasts touches.ended (ν ∷ [], tt) (x δ ys, (s, tt)) zs) ⊛ raw (fact 𝓤 (zs.0 ≡ map (used s) ys)))) (id⊢ 𝓤 _) $ pick ! (λ zs.
           split ! $ move ! (1 ∷ []) $ heard ! (zs.0 ≡ map (used s) ys) (λ e. fsplit ! $ fsplit ! $ move ! (1 ∷ []) $ feq_l ! (λ k. move ! (2 ∷ []) $ split ! $ move ! (1 ∷ []) $ feq_l ! (λ un.
@@ -171,9 +171,9 @@ module _ {M : Type 1} {𝓤 : Ura M} (𝓛 : Logic 𝓤) (at_mem : Memory → SP
           use3 𝓛 (later (‵ ((MutSlice (named 0) κ T.the_row).own_val (x γ zs.0) (sl ∷ [])) ⊛ ‵ (flft κ q))) (comes_back T.the_row κ (ν ∷ []) q γ b o 𝓛 (named 0) (named 0) ys δ zs.0 room k) $ await ! tt $ split ! $
           land_last ! (from ! (stop !)) (init ! 8 refl (subst (λ (u : Val). Holds (has_ty ty_unit u) × WT u) (sym (ap only un)) (tt, tt))) $ forget ! 10 refl $ forget ! 8 refl $ forget ! 6 refl $
           forget ! 4 refl $ keep ! (0 ∷ 1 ∷ 4 ∷ 5 ∷ 6 ∷ 7 ∷ 8 ∷ 9 ∷ 10 ∷ 11 ∷ 12 ∷ 13 ∷ 14 ∷ 15 ∷ 16 ∷ 17 ∷ 18 ∷ 19 ∷ 20 ∷ 21 ∷ 22 ∷ 23 ∷ 24 ∷ 25 ∷ []) $
-          exec ! C Λ En pieces.t-7 (at_ret En Post) $ last s zs.0 g k (stale-says s seg ys zs.0 e₁ stale e))))))))))
+          exec ! C Λ En pieces.t-7 (at_ret En Post) $ last s zs.0 g k (stale_says s seg ys zs.0 e₁ stale e))))))))))
           (λ other. skips ! $ forget ! 8 refl $ keep ! (0 ∷ 1 ∷ 2 ∷ 3 ∷ 4 ∷ 5 ∷ 6 ∷ 7 ∷ 8 ∷ 9 ∷ 10 ∷ 11 ∷ 12 ∷ 13 ∷ 14 ∷ 15 ∷ 16 ∷ 17 ∷ 18 ∷ 19 ∷ 20 ∷ 21 ∷ 22 ∷ 23 ∷ []) $
-          exec ! C Λ En pieces.t-7 (at_ret En Post) $ last s ys g refl (other-says s seg ys e₁ other))
+          exec ! C Λ En pieces.t-7 (at_ret En Post) $ last s ys g refl (other_says s seg ys e₁ other))
 
     walk : ent 𝓤 (on_entry 𝓛 f.signature (κ, tt) (q, tt) a vals) (WpFn 𝓤 H C Λ code.function (sl ∷ vint w16 seg ∷ []) Post)
     walk =
@@ -188,7 +188,7 @@ module _ {M : Type 1} {𝓤 : Ura M} (𝓛 : Logic 𝓤) (at_mem : Memory → SP
         lft_new ! tt (λ ν. move ! (2 ∷ 1 ∷ []) $
         use2 𝓛 (later (some (λ (δ : GName). ‵ ((MutSlice (named 0) (ν ∷ []) T.the_row).own_val (x δ ys) (sl ∷ [])) ⊛ ‵ (LentAgain T.the_row κ (ν ∷ []) q γ b o δ ys)))) (lends_again T.the_row κ (ν ∷ []) q γ b o 𝓛 (named 0) (named 0) ys) $ await ! tt $ pick ! (λ δ. split ! $
         nothing ! $ move ! (3 ∷ 0 ∷ []) $ join ! $ use2 𝓛 (raw ((Find 𝓛 at_mem run).pre (to-find (ν ∷ []) full_share δ))) (goes-find (ν ∷ []) full_share δ) $
-        calls_at ! fm (Find 𝓛 at_mem run) known-find (to-find (ν ∷ []) full_share δ) (and_then ! (load ! (from ! (stop !)) (look ! 13 refl)) (and_then ! (load ! (from ! (stop !)) (look ! 11 refl)) (no_more !))) (λ w₁.
+        calls_at ! fm (Find 𝓛 at_mem run) known_find (to-find (ν ∷ []) full_share δ) (and_then ! (load ! (from ! (stop !)) (look ! 13 refl)) (and_then ! (load ! (from ! (stop !)) (look ! 11 refl)) (no_more !))) (λ w₁.
         use1 𝓛 (later (some (λ (r : Search). ((‵ (flft (ν ∷ []) full_share) ⊛ ‵ ftrue) ⊛ ‵ ((S.the_row).own_val r (w₁ ∷ []))) ⊛ raw (ensured 𝓛 finds.ended (finds.clauses 𝓛 at_mem run) (ν ∷ [], tt) (x δ ys, (start, tt)) tt r)))) (id⊢ 𝓤 _) $ await ! tt $ pick ! (λ s.
         split ! $ move ! (1 ∷ []) $ use1 𝓛 (some (λ (zs : Lasts finds.ended (ν ∷ [], tt) (x δ ys, (start, tt))). ‵ (lasts finds.ended (ν ∷ [], tt) (x δ ys, (start, tt)) zs) ⊛ raw (fact 𝓤 ((s ≡ searched start ys) × (zs.0 ≡ ys))))) (id⊢ 𝓤 _) $ pick ! (λ zs₁.
         split ! $ move ! (1 ∷ []) $ heard ! ((s ≡ searched start ys) × (zs₁.0 ≡ ys)) (λ e₁. fsplit ! $ fsplit ! $ move ! (1 ∷ []) $ feq_l ! (λ k₁. move ! (2 ∷ []) $ split ! $ move ! (1 ∷ []) $
@@ -199,13 +199,13 @@ module _ {M : Type 1} {𝓤 : Ura M} (𝓛 : Logic 𝓤) (at_mem : Memory → SP
         rewrite ! 0 (λ (l : List Record). ‵ ((MutSlice (named 0) κ T.the_row).own_val (x γ l) (sl ∷ []))) e₁.1 refl $ forget ! 18 refl $ forget ! 16 refl $ forget ! 14 refl $
         keep ! (0 ∷ 1 ∷ 6 ∷ 7 ∷ 8 ∷ 9 ∷ 10 ∷ 11 ∷ 12 ∷ 13 ∷ 14 ∷ 15 ∷ 16 ∷ 17 ∷ 18 ∷ 19 ∷ 20 ∷ 21 ∷ 22 ∷ 23 ∷ 24 ∷ 25 ∷ 26 ∷ 27 ∷ []) $ tail l₀ l₁ l₂ l₃ l₄ l₅ l₆ l₇ l₈ l₉ l₁₀ s (told s w₁ is) e₁.0)))))))))))))))))))
 
-module _ {M : Type 1} {𝓤 : Ura M} (𝓛 : Logic 𝓤) (at_mem : Memory → SProp 𝓤) (run : Routine → Fun 𝓤) (𝓣 : Tables 𝓤 𝓛.H) (known-find : Triple 𝓤 (𝓣.C #lookup·find) (Find 𝓛 at_mem run)) (known-touch : Triple 𝓤 (𝓣.C #lookup·touch) (Touch 𝓛 at_mem run)) where
+module _ {M : Type 1} {𝓤 : Ura M} (𝓛 : Logic 𝓤) (at_mem : Memory → SProp 𝓤) (run : Routine → Fun 𝓤) (𝓣 : Tables 𝓤 𝓛.H) (known_find : Triple 𝓤 (𝓣.C #lookup·find) (Find 𝓛 at_mem run)) (known_touch : Triple 𝓤 (𝓣.C #lookup·touch) (Touch 𝓛 at_mem run)) where
   open 𝓛 use {H}
 
   f-walks : Walks 𝓛 f.ended stayed (WpFn 𝓤 H 𝓣.C 𝓣.Λ code.function) (f.clauses 𝓛 at_mem run)
   f-walks = walked 𝓛 f.ended stayed (f.clauses 𝓛 at_mem run) (WpFn 𝓤 H 𝓣.C 𝓣.Λ code.function) (λ κs. (mut_slice_vals, (uint_vals w16, tt))) (λ κs. (mut_slice_Tells (named 0) κs.0 T.the_row, (uint_Tells w16, tt)))
       (λ κs qs bounds a g are. via 𝓤 _ (fst∗ 𝓤 _ (emp 𝓤))
-      (walk 𝓛 at_mem run κs.0 qs.0 a.0.ref_ptr.0 a.0.ref_ptr.1 a.0.ghost_name a.0.now a.1.0 are.1.0.1 are.0.0.1 𝓣.C 𝓣.Λ (fm_of 𝓤 H 𝓛.laws 𝓣) known-find known-touch))
+      (walk 𝓛 at_mem run κs.0 qs.0 a.0.ref_ptr.0 a.0.ref_ptr.1 a.0.ghost_name a.0.now a.1.0 are.1.0.1 are.0.0.1 𝓣.C 𝓣.Λ (fm_of 𝓤 H 𝓛.laws 𝓣) known_find known_touch))
 
   all_go : AllGo 𝓛 1 (f.signature).params (f.ended).kept stayed
   all_go = (Goes-slice 𝓛 1 0 tt (plain (λ _. T.the_row)), (Goes-none 𝓛 1 (λ _. u16) yes (λ κs x f. refl), tt))
@@ -219,5 +219,5 @@ look-up-spec 𝓤 𝓛 𝓜 𝓡 =
     entered 𝓤 𝓛.H (triple_of 𝓛 f.signature (f.spec 𝓛 𝓜.mem 𝓡.run))
     (tables 𝓤 𝓛.H 𝓜 𝓡 code.env).C (tables 𝓤 𝓛.H 𝓜 𝓡 code.env).Λ #lookup·look-up code.function (code.unfolded 𝓤 𝓛.H 𝓜 𝓡)
     (f_meets 𝓛 𝓜.mem 𝓡.run (tables_of 𝓤 𝓛.H 𝓜 (tables 𝓤 𝓛.H 𝓜 𝓡 code.env))
-    (cited 𝓤 𝓛.H (Find 𝓛 𝓜.mem 𝓡.run) 𝓜 𝓡 code.env #lookup·find find-symbol.routine code.calls-lookup::find (find-met.met 𝓤 𝓛 𝓜 𝓡))
-    (cited 𝓤 𝓛.H (Touch 𝓛 𝓜.mem 𝓡.run) 𝓜 𝓡 code.env #lookup·touch touch-symbol.routine code.calls-lookup::touch (touch-met.met 𝓤 𝓛 𝓜 𝓡)))
+    (cited 𝓤 𝓛.H (Find 𝓛 𝓜.mem 𝓡.run) 𝓜 𝓡 code.env #lookup·find find_symbol.routine code.calls-lookup::find (find_met.met 𝓤 𝓛 𝓜 𝓡))
+    (cited 𝓤 𝓛.H (Touch 𝓛 𝓜.mem 𝓡.run) 𝓜 𝓡 code.env #lookup·touch touch_symbol.routine code.calls-lookup::touch (touch_met.met 𝓤 𝓛 𝓜 𝓡)))

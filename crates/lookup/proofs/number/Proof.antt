@@ -46,11 +46,11 @@ use denote.Triple.Clauses.{ensured, lasts}
 use denote.Triple.Table.{entered, cited}
 use denote.Triple.Walked.{says, Stays, stay_slice, stay_none, walk_of, Goes-slice, Goes-none, Walks, ends_at, walked, walk_Meets}
 use denote.Exit.{yes}
-use Rattle.lookup.specs.Lookup.{no_record, numbered, numbered-from}
+use Rattle.lookup.specs.Lookup.{no_record, numbered, numbered_from}
 use Rattle.lookup.specs.declared.Record.{Record}
-use Rattle.lookup.proofs.Place.{offset-fits}
+use Rattle.lookup.proofs.Place.{offset_fits}
 use Rattle.lookup.proofs.Parts.{after, ty_at}
-use Rattle.lookup.proofs.Counts.{first-from, none_from, from-length, numbered-length, from-turn, all_from}
+use Rattle.lookup.proofs.Counts.{first_from, none_from, from_length, numbered_length, from_turn, all_from}
 use Rattle.lookup.specs.contracts.Record as T
 use Rattle.lookup.proofs.Record.TheLaws as T'
 use Rattle.lookup.specs.declared.Tally.{Tally}
@@ -97,10 +97,10 @@ module _ {M : Type 1} {𝓤 : Ura M} (𝓛 : Logic 𝓤) (at_mem : Memory → SP
 
   -- the list at exit, and where so many are changed
   abbrev zs : List Record
-  zs = numbered-from s 0 ys
+  zs = numbered_from s 0 ys
 
   abbrev upto : ℕ → List Record
-  upto k = first-from s 0 k ys
+  upto k = first_from s 0 k ys
 
   abbrev elem : ℕ → Record
   elem k = get_or (upto k) k no_record
@@ -117,9 +117,9 @@ module _ {M : Type 1} {𝓤 : Ura M} (𝓛 : Logic 𝓤) (at_mem : Memory → SP
   exits : ent 𝓤 (⋆ 𝓛 (‵ (fobs γ ((coded_holeys T.the_row).code (heres T.the_row zs))) ∷ ‵ (fbor κ (Held T.the_row (length zs) b o γ)) ∷ ‵ (flft κ q) ∷ [])) (Post vunit)
   exits =
       qed 𝓛 (‵ (fobs γ ((coded_holeys T.the_row).code (heres T.the_row zs))) ∷ ‵ (fbor κ (Held T.the_row (length zs) b o γ)) ∷ ‵ (flft κ q) ∷ []) ∵
-      suffices ! _ (ends_at 𝓛 f.ended stayed (f.clauses 𝓛 at_mem run) (((κ, tt), (q, tt), tt, x, at), tt) vunit tt (zs, (tt, tt)) (numbered-length s 0 ys, (tt, tt))) $ says ! refl $
+      suffices ! _ (ends_at 𝓛 f.ended stayed (f.clauses 𝓛 at_mem run) (((κ, tt), (q, tt), tt, x, at), tt) vunit tt (zs, (tt, tt)) (numbered_length s 0 ys, (tt, tt))) $ says ! refl $
       nothing ! $ move ! (3 ∷ 0 ∷ []) $ join ! $ frame ! $
-      fjoin ! $ pure_i ! (mut_slice_at T.the_row (record { ref_ptr = (b, o); ghost_name = γ; now = zs }) at.0) (tt, (tt, tt)) (ap (λ (m : ℕ). slice_val (b, o) m ∷ []) (sym (numbered-length s 0 ys)), subst (Room T.the_row) (sym (numbered-length s 0 ys)) room) $ fjoin ! $
+      fjoin ! $ pure_i ! (mut_slice_at T.the_row (record { ref_ptr = (b, o); ghost_name = γ; now = zs }) at.0) (tt, (tt, tt)) (ap (λ (m : ℕ). slice_val (b, o) m ∷ []) (sym (numbered_length s 0 ys)), subst (Room T.the_row) (sym (numbered_length s 0 ys)) room) $ fjoin ! $
       nothing ! $ owned ! S.the_row (Is S.the_row) (LL.makes S.the_type S'.the_plain 𝓛) s _ gs $ fjoin ! $ move ! (1 ∷ 0 ∷ []) $ fjoin ! $ frame ! $ feq_i ! (List Val) (vunit ∷ []) (vunit ∷ []) refl $ done !
 
   -- the call
@@ -184,12 +184,12 @@ module _ {M : Type 1} {𝓤 : Ura M} (𝓛 : Logic 𝓤) (at_mem : Memory → SP
         elem_put ! T.the_row full_share (upto i.0) i.0 r (mach r ∷ []) b o (inside less) $
         assigns_last ! (bin ! (load ! (from ! (stop !)) (look ! 18 refl)) (lit ! tt) (record { fits = next_fits less })) (from ! (stop !)) (store ! 18 refl (tt, record { fits = next_fits less })) $
         forget ! 16 refl $ forget ! 14 refl $ forget ! 12 refl $ forget ! 10 refl $ forget ! 8 refl $ forget ! 6 refl $ forget ! 4 refl $
-        rewrite ! 0 (λ (l : List Record). ‵ (row T.the_row full_share l b o)) (from-turn s i.0 no_record r ys e) refl $
+        rewrite ! 0 (λ (l : List Record). ‵ (row T.the_row full_share l b o)) (from_turn s i.0 no_record r ys e) refl $
         keep ! (0 ∷ 1 ∷ 2 ∷ 3 ∷ 4 ∷ 5 ∷ 6 ∷ 7 ∷ 8 ∷ 9 ∷ 10 ∷ 11 ∷ 12 ∷ 13 ∷ 14 ∷ 15 ∷ 16 ∷ 17 ∷ 18 ∷ 19 ∷ 20 ∷ 21 ∷ 22 ∷ 23 ∷ 24 ∷ 25 ∷ []) $
         again ! Nearer At i (next less) (add-one-dec (length ys) i.0 (ltb→lt i.0 (length ys) less))))))))
         (λ over. jumps ! $ exec ! C Λ En pieces.t-3 (at_ret En Post) $
         rewrite ! 0 (λ (l : List Record). ‵ (row T.the_row full_share l b o)) (all_from s 0 i.0 ys (nltb→le i.0 (length ys) over)) refl $
-        closes_slice ! tt T.the_row ys zs (numbered-length s 0 ys) b o $ assigns ! (of_opd ! (unit_lit !)) (from ! (stop !)) (init ! 23 refl (tt, tt)) $ returns ! (look ! 23 refl) $ forget ! 23 refl $
+        closes_slice ! tt T.the_row ys zs (numbered_length s 0 ys) b o $ assigns ! (of_opd ! (unit_lit !)) (from ! (stop !)) (init ! 23 refl (tt, tt)) $ returns ! (look ! 23 refl) $ forget ! 23 refl $
         forget ! 21 refl $ forget ! 19 refl $ forget ! 17 refl $ forget ! 15 refl $ forget ! 13 refl $ move ! (23 ∷ 24 ∷ []) $ free1 ! $ move ! (21 ∷ 22 ∷ []) $ free1 ! $ move ! (19 ∷ 20 ∷ []) $ free1 ! $
         move ! (17 ∷ 18 ∷ []) $ free1 ! $ move ! (15 ∷ 16 ∷ []) $ free1 ! $ move ! (13 ∷ 14 ∷ []) $ free1 ! $ move ! (11 ∷ 12 ∷ []) $ free1 ! $ move ! (9 ∷ 10 ∷ []) $ free1 ! $ move ! (7 ∷ 8 ∷ []) $ free1 ! $
         move ! (5 ∷ 6 ∷ []) $ free1 ! $ move ! (3 ∷ 4 ∷ []) $ free1 ! $ free0 ! $ keep ! (0 ∷ 1 ∷ 2 ∷ []) $ by ! exits)
@@ -204,10 +204,10 @@ module _ {M : Type 1} {𝓤 : Ura M} (𝓛 : Logic 𝓤) (at_mem : Memory → SP
         ltb-fits less = lt_of_le_of_lt i.1 room.0
 
         place-fits : Holds (ltb i.0 (length ys)) → i.0 * 16 < 2 ^ 64
-        place-fits less = offset-fits i.0 (length ys) (ltb→lt i.0 (length ys) less) room.1
+        place-fits less = offset_fits i.0 (length ys) (ltb→lt i.0 (length ys) less) room.1
 
         inside : Holds (ltb i.0 (length ys)) → i.0 < length (upto i.0)
-        inside less = subst (λ (m : ℕ). i.0 < m) (sym (from-length s 0 i.0 ys)) (ltb→lt i.0 (length ys) less)
+        inside less = subst (λ (m : ℕ). i.0 < m) (sym (from_length s 0 i.0 ys)) (ltb→lt i.0 (length ys) less)
 
   walk : (𝓣 : Tables 𝓤 H) → FmC 𝓤 H 𝓛.laws 𝓣.C → Triple 𝓤 (𝓣.C #lookup·number-one) (Core 𝓛 at_mem run) → ent 𝓤 (on_entry 𝓛 f.signature (κ, tt) (q, tt) x at) (WpFn 𝓤 H 𝓣.C 𝓣.Λ code.function (slice_val (b, o) (length ys) ∷ mach-s s ∷ []) Post)
   walk 𝓣 fm known =
@@ -238,4 +238,4 @@ number-spec 𝓤 𝓛 𝓜 𝓡 =
     entered 𝓤 𝓛.H (triple_of 𝓛 f.signature (f.spec 𝓛 𝓜.mem 𝓡.run))
     (tables 𝓤 𝓛.H 𝓜 𝓡 code.env).C (tables 𝓤 𝓛.H 𝓜 𝓡 code.env).Λ #lookup·number code.function (code.unfolded 𝓤 𝓛.H 𝓜 𝓡)
     (f_meets 𝓛 𝓜.mem 𝓡.run (tables_of 𝓤 𝓛.H 𝓜 (tables 𝓤 𝓛.H 𝓜 𝓡 code.env))
-    (cited 𝓤 𝓛.H (Core 𝓛 𝓜.mem 𝓡.run) 𝓜 𝓡 code.env #lookup·number-one core-symbol.routine code.calls-lookup::number-one (core-met.met 𝓤 𝓛 𝓜 𝓡)))
+    (cited 𝓤 𝓛.H (Core 𝓛 𝓜.mem 𝓡.run) 𝓜 𝓡 code.env #lookup·number-one core_symbol.routine code.calls-lookup::number-one (core_met.met 𝓤 𝓛 𝓜 𝓡)))

@@ -41,7 +41,7 @@ use denote.Triple.Clauses.{ensured, lasts, Lasts}
 use denote.Triple.Table.{entered, cited}
 use denote.Triple.Walked.{says, Stays, stay_slice, stay_none, walk_of, Goes-slice, Goes-none, AllGo, Walks, ends_at, walked, walk_Meets}
 use denote.Exit.{yes}
-use Rattle.lookup.specs.Lookup.{tallied-all, numbered-from, no-tally, in_order}
+use Rattle.lookup.specs.Lookup.{tallied_all, numbered_from, no_tally, in_order}
 use Rattle.lookup.specs.declared.Record.{Record}
 use Rattle.lookup.specs.declared.Tally.{Tally}
 use Rattle.lookup.proofs.Again.{LentAgain, lends_again, comes_back}
@@ -130,8 +130,8 @@ module _ {M : Type 1} {𝓤 : Ura M} (𝓛 : Logic 𝓤) (at_mem : Memory → SP
   goes-empty : ent 𝓤 (emp 𝓤) ((Empty 𝓛 at_mem run).pre to-empty)
   goes-empty = qed 𝓛 [] ∵ nothing ! $ nothing ! $ join ! $ frame ! $ done !
 
-  of-empty : (c : Tally) → ent 𝓤 (ensured 𝓛 empties.ended (empties.clauses 𝓛 at_mem run) tt tt tt c) (fact 𝓤 (c ≡ no-tally))
-  of-empty c = ex_e 𝓤 _ (λ ws. snd∗ 𝓤 (sem 𝓛 (lasts empties.ended tt tt ws)) (fact 𝓤 (c ≡ no-tally)))
+  of-empty : (c : Tally) → ent 𝓤 (ensured 𝓛 empties.ended (empties.clauses 𝓛 at_mem run) tt tt tt c) (fact 𝓤 (c ≡ no_tally))
+  of-empty c = ex_e 𝓤 _ (λ ws. snd∗ 𝓤 (sem 𝓛 (lasts empties.ended tt tt ws)) (fact 𝓤 (c ≡ no_tally)))
 
   abbrev to-find : Lft → Share → GName → Tally → (Find 𝓛 at_mem run).Ghost
   to-find λ' p δ c = (((λ', tt), (p, tt), tt, (x δ ys, (c, tt)), (sl ∷ [], (mach-s c ∷ [], tt))), tt)
@@ -149,23 +149,23 @@ module _ {M : Type 1} {𝓤 : Ura M} (𝓛 : Logic 𝓤) (at_mem : Memory → SP
       qed 𝓛 ((‵ (flft λ' p) ⊛ ‵ ftrue) ∷ ‵ ((MutSlice (named 0) λ' T.the_row).own_val (x δ ys) (sl ∷ [])) ∷ []) ∵ nothing ! $
       owned ! S.the_row (Is S.the_row) (LL.makes S.the_type S'.the_plain 𝓛) s _ g $ fjoin ! $ move ! (2 ∷ 0 ∷ []) $ fjoin ! $ move ! (1 ∷ 0 ∷ []) $ join ! $ frame ! $ done !
 
-  module _ (C : Calls 𝓤 H) (Λ : Loops 𝓤 H) (fm : FmC 𝓤 H 𝓛.laws C) (known-empty : Triple 𝓤 (C #lookup·empty-tally) (Empty 𝓛 at_mem run)) (known-find : Triple 𝓤 (C #lookup·count-all) (Find 𝓛 at_mem run)) (known-touch : Triple 𝓤 (C #lookup·number) (Touch 𝓛 at_mem run)) where
+  module _ (C : Calls 𝓤 H) (Λ : Loops 𝓤 H) (fm : FmC 𝓤 H 𝓛.laws C) (known_empty : Triple 𝓤 (C #lookup·empty-tally) (Empty 𝓛 at_mem run)) (known_find : Triple 𝓤 (C #lookup·count-all) (Find 𝓛 at_mem run)) (known_touch : Triple 𝓤 (C #lookup·number) (Touch 𝓛 at_mem run)) where
     module _ (l₀ l₁ l₂ l₃ l₄ l₅ l₆ l₇ l₈ : ℕ) where
       abbrev En : Env 𝓤 H
       En = (ty 0, l₀) ∷ (ty 1, l₁) ∷ (ty 2, l₂) ∷ (ty 3, l₃) ∷ (ty 4, l₄) ∷ (ty 5, l₅) ∷ (ty 6, l₆) ∷ (ty 7, l₇) ∷ (ty 8, l₈) ∷ []
 
       -- after the count
-      tail : (s : Tally) → Fits s → s ≡ tallied-all no-tally ys → Sq 𝓛 (‵ ((MutSlice (named 0) κ T.the_row).own_val (x γ ys) (sl ∷ [])) ∷ ‵ (flft κ q) ∷ ‵ (froom (ty 8) l₈ 0) ∷ ‵ (fdies (ty 8) l₈) ∷ ‵ (froom (ty 7) l₇ 0) ∷ ‵ (fdies (ty 7) l₇) ∷ ‵ (froom (ty 6) l₆ 0) ∷ ‵ (fdies (ty 6) l₆) ∷ ‵ (froom (ty 5) l₅ 0) ∷ ‵ (fdies (ty 5) l₅) ∷ ‵ (froom (ty 4) l₄ 0) ∷ ‵ (fdies (ty 4) l₄) ∷ ‵ (froom (ty 3) l₃ 0) ∷ ‵ (fdies (ty 3) l₃) ∷ ‵ (fat full_share (ty 2) l₂ 0 (mach-s s)) ∷ ‵ (fdies (ty 2) l₂) ∷ ‵ (fat full_share (ty 1) l₁ 0 (sl)) ∷ ‵ (fdies (ty 1) l₁) ∷ ‵ (froom (ty 0) l₀ 0) ∷ ‵ (fdies (ty 0) l₀) ∷ []) (runs C Λ En pieces.t-5 (at_ret En Post))
+      tail : (s : Tally) → Fits s → s ≡ tallied_all no_tally ys → Sq 𝓛 (‵ ((MutSlice (named 0) κ T.the_row).own_val (x γ ys) (sl ∷ [])) ∷ ‵ (flft κ q) ∷ ‵ (froom (ty 8) l₈ 0) ∷ ‵ (fdies (ty 8) l₈) ∷ ‵ (froom (ty 7) l₇ 0) ∷ ‵ (fdies (ty 7) l₇) ∷ ‵ (froom (ty 6) l₆ 0) ∷ ‵ (fdies (ty 6) l₆) ∷ ‵ (froom (ty 5) l₅ 0) ∷ ‵ (fdies (ty 5) l₅) ∷ ‵ (froom (ty 4) l₄ 0) ∷ ‵ (fdies (ty 4) l₄) ∷ ‵ (froom (ty 3) l₃ 0) ∷ ‵ (fdies (ty 3) l₃) ∷ ‵ (fat full_share (ty 2) l₂ 0 (mach-s s)) ∷ ‵ (fdies (ty 2) l₂) ∷ ‵ (fat full_share (ty 1) l₁ 0 (sl)) ∷ ‵ (fdies (ty 1) l₁) ∷ ‵ (froom (ty 0) l₀ 0) ∷ ‵ (fdies (ty 0) l₀) ∷ []) (runs C Λ En pieces.t-5 (at_ret En Post))
       tail s g e₁ =
           assigns ! (addr ! (from ! (fld ! refl (hop ! (look_in ! 16 (sub ! 0 refl (whole !))) (stop !))))) (from ! (stop !)) (init ! 4 refl (tt, tt)) $
           assigns ! (agg ! (and_then ! (load ! (from ! (stop !)) (look ! 4 refl)) (and_then ! (load ! (from ! (fld ! refl (stop !))) (look_in ! 16 (sub ! 1 refl (whole !)))) (no_more !)))) (from ! (stop !)) (init ! 2 refl (tt, (tt, (record { fits = room.0 }, tt)))) $
           lft_new ! tt (λ ν. move ! (1 ∷ 2 ∷ []) $
           use2 𝓛 (later (some (λ (δ : GName). ‵ ((MutSlice (named 0) (ν ∷ []) T.the_row).own_val (x δ ys) (sl ∷ [])) ⊛ ‵ (LentAgain T.the_row κ (ν ∷ []) q γ b o δ ys)))) (lends_again T.the_row κ (ν ∷ []) q γ b o 𝓛 (named 0) (named 0) ys) $ await ! tt $ pick ! (λ δ. split ! $
           nothing ! $ move ! (3 ∷ 0 ∷ []) $ join ! $ use2 𝓛 (raw ((Touch 𝓛 at_mem run).pre (to-touches (ν ∷ []) full_share δ s))) (goes-touches (ν ∷ []) full_share δ s g) $
-          calls_at ! fm (Touch 𝓛 at_mem run) known-touch (to-touches (ν ∷ []) full_share δ s) (and_then ! (load ! (from ! (stop !)) (look ! 2 refl)) (and_then ! (load ! (from ! (stop !)) (look ! 14 refl)) (no_more !))) (λ w₂.
+          calls_at ! fm (Touch 𝓛 at_mem run) known_touch (to-touches (ν ∷ []) full_share δ s) (and_then ! (load ! (from ! (stop !)) (look ! 2 refl)) (and_then ! (load ! (from ! (stop !)) (look ! 14 refl)) (no_more !))) (λ w₂.
           use1 𝓛 (later (some (λ (r : Unit {0}). ((‵ (flft (ν ∷ []) full_share) ⊛ ‵ ftrue) ⊛ ‵ (unit.own_val r (w₂ ∷ []))) ⊛ raw (ensured 𝓛 touches.ended (touches.clauses 𝓛 at_mem run) (ν ∷ [], tt) (x δ ys, (s, tt)) tt r)))) (id⊢ 𝓤 _) $ await ! tt $ pick ! (λ r.
-          split ! $ move ! (1 ∷ []) $ use1 𝓛 (some (λ (zs : Lasts touches.ended (ν ∷ [], tt) (x δ ys, (s, tt))). ‵ (lasts touches.ended (ν ∷ [], tt) (x δ ys, (s, tt)) zs) ⊛ raw (fact 𝓤 (zs.0 ≡ numbered-from s 0 ys)))) (id⊢ 𝓤 _) $ pick ! (λ zs.
-          split ! $ move ! (1 ∷ []) $ heard ! (zs.0 ≡ numbered-from s 0 ys) (λ e. fsplit ! $ fsplit ! $ move ! (1 ∷ []) $ feq_l ! (λ k. move ! (2 ∷ []) $ split ! $ move ! (1 ∷ []) $ feq_l ! (λ un.
+          split ! $ move ! (1 ∷ []) $ use1 𝓛 (some (λ (zs : Lasts touches.ended (ν ∷ [], tt) (x δ ys, (s, tt))). ‵ (lasts touches.ended (ν ∷ [], tt) (x δ ys, (s, tt)) zs) ⊛ raw (fact 𝓤 (zs.0 ≡ numbered_from s 0 ys)))) (id⊢ 𝓤 _) $ pick ! (λ zs.
+          split ! $ move ! (1 ∷ []) $ heard ! (zs.0 ≡ numbered_from s 0 ys) (λ e. fsplit ! $ fsplit ! $ move ! (1 ∷ []) $ feq_l ! (λ k. move ! (2 ∷ []) $ split ! $ move ! (1 ∷ []) $ feq_l ! (λ un.
           land ! (from ! (stop !)) (init ! 8 refl (subst (λ (u : Val). Holds (has_ty ty_unit u) × WT u) (sym (ap only un)) (tt, tt))) $ split ! $ lft_end ! tt $ move ! (0 ∷ 4 ∷ 2 ∷ []) $
           use3 𝓛 (later (‵ ((MutSlice (named 0) κ T.the_row).own_val (x γ zs.0) (sl ∷ [])) ⊛ ‵ (flft κ q))) (comes_back T.the_row κ (ν ∷ []) q γ b o 𝓛 (named 0) (named 0) ys δ zs.0 room k) $ await ! tt $ split ! $
           assigns ! (of_opd ! (unit_lit !)) (from ! (stop !)) (init ! 20 refl (tt, tt)) $ returns ! (look ! 20 refl) $ forget ! 20 refl $ forget ! 18 refl $ forget ! 16 refl $ forget ! 8 refl $
@@ -179,33 +179,33 @@ module _ {M : Type 1} {𝓤 : Ura M} (𝓛 : Logic 𝓤) (at_mem : Memory → SP
         alloc1 ! (λ l₄. alloc1 ! (λ l₅. alloc1 ! (λ l₆. alloc1 ! (λ l₇. alloc1 ! (λ l₈. alloc0 ! $ params1 ! $ pass1 ! (init ! 14 refl (tt, (tt, (record { fits = room.0 }, tt)))) $ pass0 ! $
         assigns ! (addr ! (from ! (fld ! refl (hop ! (look_in ! 14 (sub ! 0 refl (whole !))) (stop !))))) (from ! (stop !)) (init ! 10 refl (tt, tt)) $
         assigns ! (agg ! (and_then ! (load ! (from ! (stop !)) (look ! 10 refl)) (and_then ! (load ! (from ! (fld ! refl (stop !))) (look_in ! 14 (sub ! 1 refl (whole !)))) (no_more !)))) (from ! (stop !)) (init ! 8 refl (tt, (tt, (record { fits = room.0 }, tt)))) $
-        use0 𝓛 (raw ((Empty 𝓛 at_mem run).pre to-empty)) goes-empty $ calls_at ! fm (Empty 𝓛 at_mem run) known-empty to-empty (no_more !) (λ v.
+        use0 𝓛 (raw ((Empty 𝓛 at_mem run).pre to-empty)) goes-empty $ calls_at ! fm (Empty 𝓛 at_mem run) known_empty to-empty (no_more !) (λ v.
         use1 𝓛 (later (some (λ (c : Tally). (‵ ftrue ⊛ ‵ ((S.the_row).own_val c (v ∷ []))) ⊛ raw (ensured 𝓛 empties.ended (empties.clauses 𝓛 at_mem run) tt tt tt c)))) (id⊢ 𝓤 _) $ await ! tt $ pick ! (λ c.
-        split ! $ move ! (1 ∷ []) $ use1 𝓛 (raw (fact 𝓤 (c ≡ no-tally))) (of-empty c) $ heard ! (c ≡ no-tally) (λ e₀. split ! $ drop ! $
+        split ! $ move ! (1 ∷ []) $ use1 𝓛 (raw (fact 𝓤 (c ≡ no_tally))) (of-empty c) $ heard ! (c ≡ no_tally) (λ e₀. split ! $ drop ! $
         peeks ! S.the_row (Is S.the_row) (shows 𝓛 S.the_row) c (v ∷ []) (λ is₀.
         land ! (from ! (stop !)) (init ! 7 refl ((LL.lawful S.the_type S'.the_laws 𝓛).typed c _ is₀).0) $ rewrite ! 7 (λ (u : Val). ‵ (fat full_share S'.mir l₅ 0 u)) (ap only (LL.tells S.the_type S'.the_laws c _ is₀)) refl $ drop ! $
         move ! (19 ∷ []) $ fsplit ! $ move ! (20 ∷ []) $ split ! $ move ! (1 ∷ []) $ drop ! $ lft_new ! tt (λ ν. move ! (2 ∷ 1 ∷ []) $
         use2 𝓛 (later (some (λ (δ : GName). ‵ ((MutSlice (named 0) (ν ∷ []) T.the_row).own_val (x δ ys) (sl ∷ [])) ⊛ ‵ (LentAgain T.the_row κ (ν ∷ []) q γ b o δ ys)))) (lends_again T.the_row κ (ν ∷ []) q γ b o 𝓛 (named 0) (named 0) ys) $ await ! tt $ pick ! (λ δ. split ! $
         nothing ! $ move ! (3 ∷ 0 ∷ []) $ join ! $ use2 𝓛 (raw ((Find 𝓛 at_mem run).pre (to-find (ν ∷ []) full_share δ c))) (goes-find (ν ∷ []) full_share δ c (told c v is₀)) $
-        calls_at ! fm (Find 𝓛 at_mem run) known-find (to-find (ν ∷ []) full_share δ c) (and_then ! (load ! (from ! (stop !)) (look ! 11 refl)) (and_then ! (load ! (from ! (stop !)) (look ! 9 refl)) (no_more !))) (λ w₁.
+        calls_at ! fm (Find 𝓛 at_mem run) known_find (to-find (ν ∷ []) full_share δ c) (and_then ! (load ! (from ! (stop !)) (look ! 11 refl)) (and_then ! (load ! (from ! (stop !)) (look ! 9 refl)) (no_more !))) (λ w₁.
         use1 𝓛 (later (some (λ (r : Tally). ((‵ (flft (ν ∷ []) full_share) ⊛ ‵ ftrue) ⊛ ‵ ((S.the_row).own_val r (w₁ ∷ []))) ⊛ raw (ensured 𝓛 finds.ended (finds.clauses 𝓛 at_mem run) (ν ∷ [], tt) (x δ ys, (c, tt)) tt r)))) (id⊢ 𝓤 _) $ await ! tt $ pick ! (λ s.
-        split ! $ move ! (1 ∷ []) $ use1 𝓛 (some (λ (zs : Lasts finds.ended (ν ∷ [], tt) (x δ ys, (c, tt))). ‵ (lasts finds.ended (ν ∷ [], tt) (x δ ys, (c, tt)) zs) ⊛ raw (fact 𝓤 ((s ≡ tallied-all c ys) × (zs.0 ≡ ys))))) (id⊢ 𝓤 _) $ pick ! (λ zs₁.
-        split ! $ move ! (1 ∷ []) $ heard ! ((s ≡ tallied-all c ys) × (zs₁.0 ≡ ys)) (λ e₁. fsplit ! $ fsplit ! $ move ! (1 ∷ []) $ feq_l ! (λ k₁. move ! (2 ∷ []) $ split ! $ move ! (1 ∷ []) $
+        split ! $ move ! (1 ∷ []) $ use1 𝓛 (some (λ (zs : Lasts finds.ended (ν ∷ [], tt) (x δ ys, (c, tt))). ‵ (lasts finds.ended (ν ∷ [], tt) (x δ ys, (c, tt)) zs) ⊛ raw (fact 𝓤 ((s ≡ tallied_all c ys) × (zs.0 ≡ ys))))) (id⊢ 𝓤 _) $ pick ! (λ zs₁.
+        split ! $ move ! (1 ∷ []) $ heard ! ((s ≡ tallied_all c ys) × (zs₁.0 ≡ ys)) (λ e₁. fsplit ! $ fsplit ! $ move ! (1 ∷ []) $ feq_l ! (λ k₁. move ! (2 ∷ []) $ split ! $ move ! (1 ∷ []) $
         peeks ! S.the_row (Is S.the_row) (shows 𝓛 S.the_row) s (w₁ ∷ []) (λ is.
         land ! (from ! (stop !)) (init ! 18 refl ((LL.lawful S.the_type S'.the_laws 𝓛).typed s _ is).0) $ rewrite ! 18 (λ (u : Val). ‵ (fat full_share S'.mir l₂ 0 u)) (ap only (LL.tells S.the_type S'.the_laws s _ is)) refl $
         move ! (1 ∷ []) $ split ! $ lft_end ! tt $ move ! (0 ∷ 5 ∷ 3 ∷ []) $
         use3 𝓛 (later (‵ ((MutSlice (named 0) κ T.the_row).own_val (x γ zs₁.0) (sl ∷ [])) ⊛ ‵ (flft κ q))) (comes_back T.the_row κ (ν ∷ []) q γ b o 𝓛 (named 0) (named 0) ys δ zs₁.0 room k₁) $ await ! tt $ split ! $
         rewrite ! 0 (λ (l : List Record). ‵ ((MutSlice (named 0) κ T.the_row).own_val (x γ l) (sl ∷ []))) e₁.1 refl $ forget ! 16 refl $ forget ! 14 refl $ forget ! 12 refl $
         keep ! (0 ∷ 1 ∷ 6 ∷ 7 ∷ 8 ∷ 9 ∷ 10 ∷ 11 ∷ 12 ∷ 13 ∷ 14 ∷ 15 ∷ 16 ∷ 17 ∷ 18 ∷ 19 ∷ 20 ∷ 21 ∷ 22 ∷ 23 ∷ []) $
-        tail l₀ l₁ l₂ l₃ l₄ l₅ l₆ l₇ l₈ s (told s w₁ is) (e₁.0 ∙ ap (λ (d : Tally). tallied-all d ys) e₀))))))))))))))))))))))
+        tail l₀ l₁ l₂ l₃ l₄ l₅ l₆ l₇ l₈ s (told s w₁ is) (e₁.0 ∙ ap (λ (d : Tally). tallied_all d ys) e₀))))))))))))))))))))))
 
-module _ {M : Type 1} {𝓤 : Ura M} (𝓛 : Logic 𝓤) (at_mem : Memory → SProp 𝓤) (run : Routine → Fun 𝓤) (𝓣 : Tables 𝓤 𝓛.H) (known-empty : Triple 𝓤 (𝓣.C #lookup·empty-tally) (Empty 𝓛 at_mem run)) (known-find : Triple 𝓤 (𝓣.C #lookup·count-all) (Find 𝓛 at_mem run)) (known-touch : Triple 𝓤 (𝓣.C #lookup·number) (Touch 𝓛 at_mem run)) where
+module _ {M : Type 1} {𝓤 : Ura M} (𝓛 : Logic 𝓤) (at_mem : Memory → SProp 𝓤) (run : Routine → Fun 𝓤) (𝓣 : Tables 𝓤 𝓛.H) (known_empty : Triple 𝓤 (𝓣.C #lookup·empty-tally) (Empty 𝓛 at_mem run)) (known_find : Triple 𝓤 (𝓣.C #lookup·count-all) (Find 𝓛 at_mem run)) (known_touch : Triple 𝓤 (𝓣.C #lookup·number) (Touch 𝓛 at_mem run)) where
   open 𝓛 use {H}
 
   f-walks : Walks 𝓛 f.ended stayed (WpFn 𝓤 H 𝓣.C 𝓣.Λ code.function) (f.clauses 𝓛 at_mem run)
   f-walks = walked 𝓛 f.ended stayed (f.clauses 𝓛 at_mem run) (WpFn 𝓤 H 𝓣.C 𝓣.Λ code.function) (λ κs. (mut_slice_vals, tt)) (λ κs. (mut_slice_Tells (named 0) κs.0 T.the_row, tt))
       (λ κs qs bounds a g are. via 𝓤 _ (fst∗ 𝓤 _ (emp 𝓤))
-      (walk 𝓛 at_mem run κs.0 qs.0 a.0.ref_ptr.0 a.0.ref_ptr.1 a.0.ghost_name a.0.now are.0.0.1 𝓣.C 𝓣.Λ (fm_of 𝓤 H 𝓛.laws 𝓣) known-empty known-find known-touch))
+      (walk 𝓛 at_mem run κs.0 qs.0 a.0.ref_ptr.0 a.0.ref_ptr.1 a.0.ghost_name a.0.now are.0.0.1 𝓣.C 𝓣.Λ (fm_of 𝓤 H 𝓛.laws 𝓣) known_empty known_find known_touch))
 
   all_go : AllGo 𝓛 1 (f.signature).params (f.ended).kept stayed
   all_go = (Goes-slice 𝓛 1 0 tt (plain (λ _. T.the_row)), tt)
@@ -219,6 +219,6 @@ order-spec 𝓤 𝓛 𝓜 𝓡 =
     entered 𝓤 𝓛.H (triple_of 𝓛 f.signature (f.spec 𝓛 𝓜.mem 𝓡.run))
     (tables 𝓤 𝓛.H 𝓜 𝓡 code.env).C (tables 𝓤 𝓛.H 𝓜 𝓡 code.env).Λ #lookup·order code.function (code.unfolded 𝓤 𝓛.H 𝓜 𝓡)
     (f_meets 𝓛 𝓜.mem 𝓡.run (tables_of 𝓤 𝓛.H 𝓜 (tables 𝓤 𝓛.H 𝓜 𝓡 code.env))
-    (cited 𝓤 𝓛.H (Empty 𝓛 𝓜.mem 𝓡.run) 𝓜 𝓡 code.env #lookup·empty-tally empty-symbol.routine code.calls-lookup::empty-tally (empty-met.met 𝓤 𝓛 𝓜 𝓡))
-    (cited 𝓤 𝓛.H (Find 𝓛 𝓜.mem 𝓡.run) 𝓜 𝓡 code.env #lookup·count-all find-symbol.routine code.calls-lookup::count-all (find-met.met 𝓤 𝓛 𝓜 𝓡))
-    (cited 𝓤 𝓛.H (Touch 𝓛 𝓜.mem 𝓡.run) 𝓜 𝓡 code.env #lookup·number touch-symbol.routine code.calls-lookup::number (touch-met.met 𝓤 𝓛 𝓜 𝓡)))
+    (cited 𝓤 𝓛.H (Empty 𝓛 𝓜.mem 𝓡.run) 𝓜 𝓡 code.env #lookup·empty-tally empty_symbol.routine code.calls-lookup::empty-tally (empty_met.met 𝓤 𝓛 𝓜 𝓡))
+    (cited 𝓤 𝓛.H (Find 𝓛 𝓜.mem 𝓡.run) 𝓜 𝓡 code.env #lookup·count-all find_symbol.routine code.calls-lookup::count-all (find_met.met 𝓤 𝓛 𝓜 𝓡))
+    (cited 𝓤 𝓛.H (Touch 𝓛 𝓜.mem 𝓡.run) 𝓜 𝓡 code.env #lookup·number touch_symbol.routine code.calls-lookup::number (touch_met.met 𝓤 𝓛 𝓜 𝓡)))

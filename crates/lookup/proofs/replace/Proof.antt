@@ -46,9 +46,9 @@ use denote.Triple.Walked.{says, Stays, stay_slice, stay_none, walk_of, Goes-slic
 use denote.Exit.{yes}
 use Rattle.lookup.specs.Lookup.{no_record, overwritten}
 use Rattle.lookup.specs.declared.Record.{Record}
-use Rattle.lookup.proofs.Place.{offset-fits}
+use Rattle.lookup.proofs.Place.{offset_fits}
 use Rattle.lookup.proofs.Parts.{after, ty_at}
-use Rattle.lookup.proofs.Lists.{first_by, none-by, first-length, one-turn, all-by}
+use Rattle.lookup.proofs.Lists.{first_by, none_by, first_length, one_turn, all_by}
 use Rattle.lookup.specs.contracts.Record as T
 use Rattle.lookup.proofs.Record.TheLaws as T'
 use Rattle.lookup.specs.declared.Entry.{Entry}
@@ -182,11 +182,11 @@ module _ {M : Type 1} {𝓤 : Ura M} (𝓛 : Logic 𝓤) (at_mem : Memory → SP
         elem_put ! T.the_row full_share (upto i.0) i.0 r (mach r ∷ []) b o (inside less) $
         assigns_last ! (bin ! (load ! (from ! (stop !)) (look ! 18 refl)) (lit ! tt) (record { fits = next_fits less })) (from ! (stop !)) (store ! 18 refl (tt, record { fits = next_fits less })) $
         forget ! 16 refl $ forget ! 14 refl $ forget ! 12 refl $ forget ! 10 refl $ forget ! 8 refl $ forget ! 6 refl $ forget ! 4 refl $
-        rewrite ! 0 (λ (l : List Record). ‵ (row T.the_row full_share l b o)) (one-turn (overwritten s) i.0 no_record r ys e) refl $
+        rewrite ! 0 (λ (l : List Record). ‵ (row T.the_row full_share l b o)) (one_turn (overwritten s) i.0 no_record r ys e) refl $
         keep ! (0 ∷ 1 ∷ 2 ∷ 3 ∷ 4 ∷ 5 ∷ 6 ∷ 7 ∷ 8 ∷ 9 ∷ 10 ∷ 11 ∷ 12 ∷ 13 ∷ 14 ∷ 15 ∷ 16 ∷ 17 ∷ 18 ∷ 19 ∷ 20 ∷ 21 ∷ 22 ∷ 23 ∷ 24 ∷ 25 ∷ []) $
         again ! Nearer At i (next less) (add-one-dec (length ys) i.0 (ltb→lt i.0 (length ys) less))))))))
         (λ over. jumps ! $ exec ! C Λ En pieces.t-3 (at_ret En Post) $
-        rewrite ! 0 (λ (l : List Record). ‵ (row T.the_row full_share l b o)) (all-by (overwritten s) i.0 ys (nltb→le i.0 (length ys) over)) refl $
+        rewrite ! 0 (λ (l : List Record). ‵ (row T.the_row full_share l b o)) (all_by (overwritten s) i.0 ys (nltb→le i.0 (length ys) over)) refl $
         closes_slice ! tt T.the_row ys zs (length-map ys (overwritten s)) b o $ assigns ! (of_opd ! (unit_lit !)) (from ! (stop !)) (init ! 23 refl (tt, tt)) $ returns ! (look ! 23 refl) $ forget ! 23 refl $
         forget ! 21 refl $ forget ! 19 refl $ forget ! 17 refl $ forget ! 15 refl $ forget ! 13 refl $ move ! (23 ∷ 24 ∷ []) $ free1 ! $ move ! (21 ∷ 22 ∷ []) $ free1 ! $ move ! (19 ∷ 20 ∷ []) $ free1 ! $
         move ! (17 ∷ 18 ∷ []) $ free1 ! $ move ! (15 ∷ 16 ∷ []) $ free1 ! $ move ! (13 ∷ 14 ∷ []) $ free1 ! $ move ! (11 ∷ 12 ∷ []) $ free1 ! $ move ! (9 ∷ 10 ∷ []) $ free1 ! $ move ! (7 ∷ 8 ∷ []) $ free1 ! $
@@ -199,10 +199,10 @@ module _ {M : Type 1} {𝓤 : Ura M} (𝓛 : Logic 𝓤) (at_mem : Memory → SP
         next_fits less = lt_of_le_of_lt (next less).1 room.0
 
         place-fits : Holds (ltb i.0 (length ys)) → i.0 * 16 < 2 ^ 64
-        place-fits less = offset-fits i.0 (length ys) (ltb→lt i.0 (length ys) less) room.1
+        place-fits less = offset_fits i.0 (length ys) (ltb→lt i.0 (length ys) less) room.1
 
         inside : Holds (ltb i.0 (length ys)) → i.0 < length (upto i.0)
-        inside less = subst (λ (m : ℕ). i.0 < m) (sym (first-length (overwritten s) i.0 ys)) (ltb→lt i.0 (length ys) less)
+        inside less = subst (λ (m : ℕ). i.0 < m) (sym (first_length (overwritten s) i.0 ys)) (ltb→lt i.0 (length ys) less)
 
   walk : (𝓣 : Tables 𝓤 H) → FmC 𝓤 H 𝓛.laws 𝓣.C → Triple 𝓤 (𝓣.C #lookup·overwrite) (Core 𝓛 at_mem run) → ent 𝓤 (on_entry 𝓛 f.signature (κ, tt) (q, tt) x at) (WpFn 𝓤 H 𝓣.C 𝓣.Λ code.function (slice_val (b, o) (length ys) ∷ mach-s s ∷ []) Post)
   walk 𝓣 fm known =
@@ -210,7 +210,7 @@ module _ {M : Type 1} {𝓤 : Ura M} (𝓛 : Logic 𝓤) (at_mem : Memory → SP
       alloc1 ! (λ l₀. alloc1 ! (λ l₁. alloc1 ! (λ l₂. alloc1 ! (λ l₃. alloc1 ! (λ l₄. alloc1 ! (λ l₅. alloc1 ! (λ l₆. alloc1 ! (λ l₇. alloc1 ! (λ l₈. alloc1 ! (λ l₉. alloc1 ! (λ l₁₀. alloc0 ! $ params1 ! $
       pass1 ! (init ! 18 refl (tt, (tt, (record { fits = room.0 }, tt)))) $ pass1 ! (init ! 16 refl (typed-s s gs)) $ pass0 ! $
       assigns ! (of_opd ! (lit ! tt)) (from ! (stop !)) (init ! 14 refl (tt, record { fits = lit< tt })) $ move ! (23 ∷ []) $ fsplit ! $ fsplit ! $ move ! (1 ∷ []) $ fsplit ! $ move ! (26 ∷ []) $ split ! $
-      move ! (2 ∷ 3 ∷ 0 ∷ []) $ opens_slice ! tt T.the_row ys b o $ rewrite ! 0 (λ (l : List Record). ‵ (row T.the_row full_share l b o)) (none-by (overwritten s) ys) refl $
+      move ! (2 ∷ 3 ∷ 0 ∷ []) $ opens_slice ! tt T.the_row ys b o $ rewrite ! 0 (λ (l : List Record). ‵ (row T.the_row full_share l b o)) (none_by (overwritten s) ys) refl $
       keep ! (0 ∷ 1 ∷ 2 ∷ 3 ∷ 7 ∷ 8 ∷ 9 ∷ 10 ∷ 11 ∷ 12 ∷ 13 ∷ 14 ∷ 15 ∷ 16 ∷ 17 ∷ 18 ∷ 19 ∷ 20 ∷ 21 ∷ 22 ∷ 23 ∷ 24 ∷ 25 ∷ 26 ∷ 27 ∷ 28 ∷ []) $
       first ! $ blocks ! $ loops ! 𝓣 Nearer Nearer-wf (At 𝓣 fm known l₀ l₁ l₂ l₃ l₄ l₅ l₆ l₇ l₈ l₉ l₁₀) (turns 𝓣 fm known l₀ l₁ l₂ l₃ l₄ l₅ l₆ l₇ l₈ l₉ l₁₀) (0, zero-le))))))))))))
 
@@ -233,4 +233,4 @@ replace_spec 𝓤 𝓛 𝓜 𝓡 =
     entered 𝓤 𝓛.H (triple_of 𝓛 f.signature (f.spec 𝓛 𝓜.mem 𝓡.run))
     (tables 𝓤 𝓛.H 𝓜 𝓡 code.env).C (tables 𝓤 𝓛.H 𝓜 𝓡 code.env).Λ #lookup·replace code.function (code.unfolded 𝓤 𝓛.H 𝓜 𝓡)
     (f_meets 𝓛 𝓜.mem 𝓡.run (tables_of 𝓤 𝓛.H 𝓜 (tables 𝓤 𝓛.H 𝓜 𝓡 code.env))
-    (cited 𝓤 𝓛.H (Core 𝓛 𝓜.mem 𝓡.run) 𝓜 𝓡 code.env #lookup·overwrite core-symbol.routine code.calls-lookup::overwrite (core-met.met 𝓤 𝓛 𝓜 𝓡)))
+    (cited 𝓤 𝓛.H (Core 𝓛 𝓜.mem 𝓡.run) 𝓜 𝓡 code.env #lookup·overwrite core_symbol.routine code.calls-lookup::overwrite (core_met.met 𝓤 𝓛 𝓜 𝓡)))

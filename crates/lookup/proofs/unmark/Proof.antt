@@ -5,7 +5,7 @@ use Rattle.lookup.proofs.unmark.Statement.{statement}
 use Rattle.lookup.proofs.unmark.Tie as tie
 
 returns : tie.Need-returns
-unfolding Close.without-mark
+unfolding Close.without_mark
 returns c = refl
 
 pub unmark-spec : {M : Type 1} → statement M

@@ -1,5 +1,5 @@
 -- `ask` meets its contract. Assumes nothing.
-use Rattle.machine.proofs.AskLaws.{ask-delivery, ask-refused, ask-passed}
+use Rattle.machine.proofs.AskLaws.{ask_delivery, ask_refused, ask_passed}
 use borrow.Author.Rules.{rules}
 use Rattle.machine.proofs.ask.Statement.{statement}
 use Rattle.machine.proofs.ask.Tie as tie
@@ -14,7 +14,7 @@ same_length : tie.Need-same-length
 same_length c = search rules
 
 returns : tie.Need-returns
-returns c = ask-delivery _ _ _ _ _ c.before.before.before.is-delivery.ensures c.before.before.if1.true _ c.delivery-refused.ensures
+returns c = ask_delivery _ _ _ _ _ c.before.before.before.is-delivery.ensures c.before.before.if1.true _ c.delivery-refused.ensures
 
 slice-aggregate-run : tie.Need-slice-aggregate-run
 slice-aggregate-run c = search rules
@@ -29,13 +29,13 @@ same-length-2 : tie.Need-same-length-2
 same-length-2 c = search rules
 
 returns-2 : tie.Need-returns-2
-returns-2 c = ask-refused _ _ _ _ _ c.before.before.before.before.before.before.before.before.before.before.before.is-delivery.ensures c.before.before.before.before.before.before.before.before.before.before.if1.false _ _ _ _ _ _ c.before.before.before.before.before.before.run.ensures c.before.if2.true
+returns-2 c = ask_refused _ _ _ _ _ c.before.before.before.before.before.before.before.before.before.before.before.is-delivery.ensures c.before.before.before.before.before.before.before.before.before.before.if1.false _ _ _ _ _ _ c.before.before.before.before.before.before.run.ensures c.before.if2.true
 
 same-length-3 : tie.Need-same-length-3
 same-length-3 c = search rules
 
 returns-3 : tie.Need-returns-3
-returns-3 c = ask-passed _ _ _ _ _ c.before.before.before.before.before.before.before.before.before.before.is-delivery.ensures c.before.before.before.before.before.before.before.before.before.if1.false _ _ _ _ _ _ c.before.before.before.before.before.run.ensures c.if2.false
+returns-3 c = ask_passed _ _ _ _ _ c.before.before.before.before.before.before.before.before.before.before.is-delivery.ensures c.before.before.before.before.before.before.before.before.before.if1.false _ _ _ _ _ _ c.before.before.before.before.before.run.ensures c.if2.false
 
 pub ask-spec : {M : Type 1} → statement M
 ask-spec =

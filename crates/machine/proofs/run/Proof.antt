@@ -1,7 +1,7 @@
 -- `run` meets its contract. Assumes nothing.
 use mathlib.Core.Path.{sym, ◌∙◌}
 use Rattle.plain.proofs.PlainLaws.{sum_fits}
-use Rattle.machine.proofs.AnswerLaws.{refused-whole, still-passes, run-whole}
+use Rattle.machine.proofs.AnswerLaws.{refused_whole, still_passes, run_whole}
 use borrow.Author.Rules.{rules}
 use Rattle.machine.proofs.run.Statement.{statement}
 use Rattle.machine.proofs.run.Tie as tie
@@ -16,16 +16,16 @@ same_length : tie.Need-same-length
 same_length c = search rules
 
 returns : tie.Need-returns
-returns c = refused-whole _ _ _ _ _ _ _ _ c.before.before.before.before.ask.ensures.0 _ _ c.before.before.before.before.ask.ensures.1 _ c.before.if1.true c.answer-of.ensures
+returns c = refused_whole _ _ _ _ _ _ _ _ c.before.before.before.before.ask.ensures.0 _ _ c.before.before.before.before.ask.ensures.1 _ c.before.if1.true c.answer-of.ensures
 
 run-requires : tie.Need-run-requires
-run-requires c κs = still-passes _ _ _ _ c.before.before.before.before.before.before.ask.ensures.0 c.before.before.before.before.before.before.ask.ensures.1 c.before.before.before.if1.false
+run-requires c κs = still_passes _ _ _ _ c.before.before.before.before.before.before.ask.ensures.0 c.before.before.before.before.before.before.ask.ensures.1 c.before.before.before.if1.false
 
 counted-requires : tie.Need-counted-requires
 counted-requires c κs = sum_fits _ _ _ _ c.before.before.before.before.before.run.ensures.2 (search rules)
 
 answer-of-requires-2 : tie.Need-answer-of-requires-2
-answer-of-requires-2 c κs = c.before.before.before.before.before.before.run.ensures.0.pointer-within
+answer-of-requires-2 c κs = c.before.before.before.before.before.before.run.ensures.0.pointer_within
 
 same-length-2 : tie.Need-same-length-2
 same-length-2 c = search (rules, c.before.before.before.before.before.before.before.before.before.before.before.before.before.memory.given, c.before.before.before.before.before.before.memory2.given)
@@ -34,7 +34,7 @@ same-length-3 : tie.Need-same-length-3
 same-length-3 c = search rules
 
 returns-2 : tie.Need-returns-2
-returns-2 c = run-whole _ _ _ _ _ _ _ _ c.before.before.before.before.before.before.before.before.before.before.before.before.before.before.ask.ensures.0 _ _ c.before.before.before.before.before.before.before.before.before.before.before.before.before.before.ask.ensures.1 _ c.before.before.before.before.before.before.before.before.before.before.before.if1.false _ _ _ _ c.before.before.before.before.before.before.before.run.ensures.0 c.before.before.before.before.before.before.before.run.ensures.1 c.before.before.before.before.before.before.before.run.ensures.2 _ c.before.counted.ensures c.answer-of2.ensures
+returns-2 c = run_whole _ _ _ _ _ _ _ _ c.before.before.before.before.before.before.before.before.before.before.before.before.before.before.ask.ensures.0 _ _ c.before.before.before.before.before.before.before.before.before.before.before.before.before.before.ask.ensures.1 _ c.before.before.before.before.before.before.before.before.before.before.before.if1.false _ _ _ _ c.before.before.before.before.before.before.before.run.ensures.0 c.before.before.before.before.before.before.before.run.ensures.1 c.before.before.before.before.before.before.before.run.ensures.2 _ c.before.counted.ensures c.answer-of2.ensures
 
 pub run_spec : {M : Type 1} → statement M
 run_spec =

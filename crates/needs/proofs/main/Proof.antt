@@ -1,6 +1,6 @@
 -- `main` meets its contract. Assumes nothing.
 use borrow.Author.Rules.{rules}
-use Rattle.needs.proofs.LineLaws.{set-lent}
+use Rattle.needs.proofs.LineLaws.{set_lent}
 use Rattle.needs.proofs.main.Statement.{statement}
 use Rattle.needs.proofs.main.Tie as tie
 
@@ -11,7 +11,7 @@ slice-aggregate-read-image : tie.Need-slice-aggregate-read-image
 slice-aggregate-read-image c = search rules
 
 read-image-requires : tie.Need-read-image-requires
-read-image-requires c κs = search (rules, set-lent)
+read-image-requires c κs = search (rules, set_lent)
 
 enum-known-outcome : tie.Need-enum-known-outcome
 enum-known-outcome c = search rules

@@ -1,7 +1,7 @@
 -- `put_figures` meets its contract. Assumes nothing.
 use borrow.Author.Rules.{rules}
 use Rattle.model.specs.Listing.{ascii}
-use Rattle.needs.proofs.LineLaws.{figures-put}
+use Rattle.needs.proofs.LineLaws.{figures_put}
 use Rattle.needs.proofs.put_figures.Statement.{statement}
 use Rattle.needs.proofs.put_figures.Tie as tie
 
@@ -40,7 +40,7 @@ same_length c = search rules
 
 returns : tie.Need-returns
 unfolding ascii
-returns c = search (rules, figures-put)
+returns c = search (rules, figures_put)
 
 pub put-figures-spec : {M : Type 1} → statement M
 put-figures-spec =

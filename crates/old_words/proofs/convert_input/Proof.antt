@@ -1,7 +1,7 @@
 -- `convert_input` meets its contract. Assumes nothing.
 use mathlib.Core.Path.{sym}
 use lib.Seq.{length-take-le}
-use Rattle.old_words.proofs.AnswerLaws.{front-at-most}
+use Rattle.old_words.proofs.AnswerLaws.{front_at_most}
 use borrow.Author.Rules.{rules}
 use Rattle.old_words.proofs.convert_input.Statement.{statement}
 use Rattle.old_words.proofs.convert_input.Tie as tie
@@ -37,7 +37,7 @@ slice-aggregate-print-converted : tie.Need-slice-aggregate-print-converted
 slice-aggregate-print-converted c = sym (length-take-le _ _ (array-share-prefix-bytes c.before))
 
 print-converted-requires : tie.Need-print-converted-requires
-print-converted-requires c κs = search (rules, front-at-most)
+print-converted-requires c κs = search (rules, front_at_most)
 
 returns-3 : tie.Need-returns-3
 returns-3 c = search rules

@@ -1,7 +1,7 @@
 -- `print_converted` meets its contract. Assumes nothing.
 use mathlib.Core.Path.{sym}
 use lib.Seq.{length-take-le}
-use Rattle.old_words.proofs.AnswerLaws.{front-at-most, front-whole}
+use Rattle.old_words.proofs.AnswerLaws.{front_at_most, front_whole}
 use borrow.Author.Rules.{rules}
 use Rattle.old_words.proofs.print_converted.Statement.{statement}
 use Rattle.old_words.proofs.print_converted.Tie as tie
@@ -30,7 +30,7 @@ slice-aggregate-put-converted-2 c = sym (length-take-le _ _ (array-borrow-prefix
 put-converted-requires : tie.Need-put-converted-requires
 put-converted-requires c κs =
     let within = array-borrow-prefix-words c.before in
-    (front-whole _ _ within (search rules), front-at-most _ _ within (search rules), search rules)
+    (front_whole _ _ within (search rules), front_at_most _ _ within (search rules), search rules)
 
 slice-aggregate-print : tie.Need-slice-aggregate-print
 slice-aggregate-print c = search rules

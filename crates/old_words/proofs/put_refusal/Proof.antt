@@ -1,6 +1,6 @@
 -- `put_refusal` meets its contract. Assumes nothing.
 use Rattle.model.specs.Listing.{ascii}
-use Rattle.old_words.proofs.AnswerLaws.{refusal-put}
+use Rattle.old_words.proofs.AnswerLaws.{refusal_put}
 use borrow.Author.Rules.{rules}
 use Rattle.old_words.proofs.put_refusal.Statement.{statement}
 use Rattle.old_words.proofs.put_refusal.Tie as tie
@@ -22,7 +22,7 @@ same_length c = search rules
 
 returns : tie.Need-returns
 unfolding ascii
-returns c = search (rules, refusal-put)
+returns c = search (rules, refusal_put)
 
 pub put-refusal-spec : {M : Type 1} → statement M
 put-refusal-spec =

@@ -1,6 +1,6 @@
 -- `put_digit` meets its contract. Assumes nothing.
 use borrow.Author.Rules.{rules}
-use Rattle.parts.proofs.PartLaws.{one-digit-laws}
+use Rattle.parts.proofs.PartLaws.{one_digit_laws}
 use Rattle.parts.proofs.put_digit.Statement.{statement}
 use Rattle.parts.proofs.put_digit.Tie as tie
 
@@ -17,7 +17,7 @@ add-text-2 : tie.Need-overflow-add-text-2
 add-text-2 c = search rules
 
 slice-write-text-2 : tie.Need-slice-write-text-2
-slice-write-text-2 c = search (rules, one-digit-laws)
+slice-write-text-2 c = search (rules, one_digit_laws)
 
 add-result : tie.Need-overflow-add-result
 add-result c = search rules
@@ -26,7 +26,7 @@ same_length : tie.Need-same-length
 same_length c = search rules
 
 returns : tie.Need-returns
-returns c = search (rules, one-digit-laws)
+returns c = search (rules, one_digit_laws)
 
 pub put-digit-spec : {M : Type 1} → statement M
 put-digit-spec =

@@ -1,6 +1,6 @@
 -- `put_short` meets its contract. Assumes nothing.
 use borrow.Author.Rules.{rules}
-use Rattle.parts.proofs.PartLaws.{short-laws}
+use Rattle.parts.proofs.PartLaws.{short_laws}
 use Rattle.parts.proofs.put_short.Statement.{statement}
 use Rattle.parts.proofs.put_short.Tie as tie
 
@@ -32,7 +32,7 @@ same-length-2 : tie.Need-same-length-2
 same-length-2 c = search rules
 
 returns-2 : tie.Need-returns-2
-returns-2 c = search (rules, short-laws)
+returns-2 c = search (rules, short_laws)
 
 cast-put-number : tie.Need-overflow-cast-put-number
 cast-put-number c = search rules
@@ -44,7 +44,7 @@ same-length-3 : tie.Need-same-length-3
 same-length-3 c = search rules
 
 returns-3 : tie.Need-returns-3
-returns-3 c = search (rules, short-laws)
+returns-3 c = search (rules, short_laws)
 
 pub put-short-spec : {M : Type 1} → statement M
 put-short-spec =

@@ -1,6 +1,6 @@
 -- `put_total` meets its contract. Assumes nothing.
 use borrow.Author.Rules.{rules}
-use Rattle.parts.proofs.PartLaws.{number-laws}
+use Rattle.parts.proofs.PartLaws.{number_laws}
 use Rattle.parts.proofs.put_total.Statement.{statement}
 use Rattle.parts.proofs.put_total.Tie as tie
 
@@ -17,7 +17,7 @@ same_length : tie.Need-same-length
 same_length c = search rules
 
 returns : tie.Need-returns
-returns c = search (rules, number-laws)
+returns c = search (rules, number_laws)
 
 pub put-total-spec : {M : Type 1} → statement M
 put-total-spec =

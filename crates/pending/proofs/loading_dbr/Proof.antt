@@ -1,6 +1,6 @@
 -- `loading_dbr` meets its contract. Assumes nothing.
-use Rattle.pending.proofs.StoreLaws.{fits-law}
-use Rattle.pending.proofs.ReadLaws.{load-dbr-answers}
+use Rattle.pending.proofs.StoreLaws.{fits_law}
+use Rattle.pending.proofs.ReadLaws.{load_dbr_answers}
 use borrow.Author.Rules.{rules}
 use Rattle.pending.proofs.loading_dbr.Statement.{statement}
 use Rattle.pending.proofs.loading_dbr.Tie as tie
@@ -9,7 +9,7 @@ judged-requires : tie.Need-judged-requires
 judged-requires c κs = search rules
 
 word-by-requires : tie.Need-word-by-requires
-word-by-requires c κs = search (rules, fits-law)
+word-by-requires c κs = search (rules, fits_law)
 
 dbr-loaded-requires : tie.Need-dbr-loaded-requires
 dbr-loaded-requires c κs = search rules
@@ -18,7 +18,7 @@ after-requires : tie.Need-after-requires
 after-requires c κs = search rules
 
 returns : tie.Need-returns
-returns c = search (rules, load-dbr-answers)
+returns c = search (rules, load_dbr_answers)
 
 pub loading-dbr-spec : {M : Type 1} → statement M
 loading-dbr-spec =

@@ -1,5 +1,5 @@
 -- `moving` meets its contract. Assumes nothing.
-use Rattle.pending.proofs.LookLaws.{move-answers}
+use Rattle.pending.proofs.LookLaws.{move_answers}
 use borrow.Author.Rules.{rules}
 use Rattle.pending.proofs.moving.Statement.{statement}
 use Rattle.pending.proofs.moving.Tie as tie
@@ -14,7 +14,7 @@ after-requires : tie.Need-after-requires
 after-requires c κs = search rules
 
 returns : tie.Need-returns
-returns c = search (rules, move-answers)
+returns c = search (rules, move_answers)
 
 pub moving-spec : {M : Type 1} → statement M
 moving-spec = tie.close (tie.spec judged-requires moved-to-requires after-requires returns)

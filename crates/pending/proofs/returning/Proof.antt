@@ -1,5 +1,5 @@
 -- `returning` meets its contract. Assumes nothing.
-use Rattle.pending.proofs.LookLaws.{return-answers}
+use Rattle.pending.proofs.LookLaws.{return_answers}
 use borrow.Author.Rules.{rules}
 use Rattle.pending.proofs.returning.Statement.{statement}
 use Rattle.pending.proofs.returning.Tie as tie
@@ -14,7 +14,7 @@ after-requires : tie.Need-after-requires
 after-requires c κs = search rules
 
 returns : tie.Need-returns
-returns c = search (rules, return-answers)
+returns c = search (rules, return_answers)
 
 pub returning-spec : {M : Type 1} → statement M
 returning-spec = tie.close (tie.spec judged-requires returned-requires after-requires returns)

@@ -1,5 +1,5 @@
 -- `storing` meets its contract. Assumes nothing.
-use Rattle.pending.proofs.StoreLaws.{stores-law}
+use Rattle.pending.proofs.StoreLaws.{stores_law}
 use borrow.Author.Rules.{rules}
 use Rattle.pending.proofs.storing.Statement.{statement}
 use Rattle.pending.proofs.storing.Tie as tie
@@ -17,7 +17,7 @@ same_length : tie.Need-same-length
 same_length c = search rules
 
 returns : tie.Need-returns
-returns c = search (rules, stores-law)
+returns c = search (rules, stores_law)
 
 pub storing-spec : {M : Type 1} → statement M
 storing-spec =

@@ -1,5 +1,5 @@
 -- `updating` meets its contract. Assumes nothing.
-use Rattle.pending.proofs.StoreLaws.{fits-law}
+use Rattle.pending.proofs.StoreLaws.{fits_law}
 use Rattle.pending.proofs.UpdateLaws.{updates}
 use borrow.Author.Rules.{rules}
 use Rattle.pending.proofs.updating.Statement.{statement}
@@ -9,7 +9,7 @@ judged-requires : tie.Need-judged-requires
 judged-requires c κs = search rules
 
 word-by-requires : tie.Need-word-by-requires
-word-by-requires c κs = search (rules, fits-law)
+word-by-requires c κs = search (rules, fits_law)
 
 enum-known-z : tie.Need-enum-known-z
 enum-known-z c = search rules

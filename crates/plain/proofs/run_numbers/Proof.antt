@@ -1,7 +1,7 @@
 -- `run_numbers` meets its contract. Assumes nothing.
 use mathlib.Core.Path.{sym, ◌∙◌}
 use borrow.Author.Rules.{rules}
-use Rattle.plain.proofs.PlainLaws.{sum_fits, refused-plainly, run-plainly}
+use Rattle.plain.proofs.PlainLaws.{sum_fits, refused_plainly, run_plainly}
 use Rattle.plain.proofs.run_numbers.Statement.{statement}
 use Rattle.plain.proofs.run_numbers.Tie as tie
 
@@ -15,7 +15,7 @@ same_length : tie.Need-same-length
 same_length c = search rules
 
 returns : tie.Need-returns
-returns c = refused-plainly _ _ _ _ _ _ _ c.before.before.start-answer.ensures _ c.before.if1.true c.answer-of.ensures
+returns c = refused_plainly _ _ _ _ _ _ _ c.before.before.start-answer.ensures _ c.before.if1.true c.answer-of.ensures
 
 run-requires : tie.Need-run-requires
 run-requires c κs = sym c.before.before.before.before.start-answer.ensures ∙ c.before.before.before.if1.false
@@ -24,7 +24,7 @@ counted-requires : tie.Need-counted-requires
 counted-requires c κs = sum_fits _ _ _ _ c.before.before.before.before.before.run.ensures.2 (search rules)
 
 answer-of-requires-2 : tie.Need-answer-of-requires-2
-answer-of-requires-2 c κs = c.before.before.before.before.before.before.run.ensures.0.pointer-within
+answer-of-requires-2 c κs = c.before.before.before.before.before.before.run.ensures.0.pointer_within
 
 same-length-2 : tie.Need-same-length-2
 same-length-2 c = search rules
@@ -33,7 +33,7 @@ same-length-3 : tie.Need-same-length-3
 same-length-3 c = search rules
 
 returns-2 : tie.Need-returns-2
-returns-2 c = run-plainly _ _ _ _ _ _ _ c.before.before.before.before.before.before.before.before.before.before.before.before.start-answer.ensures _ c.before.before.before.before.before.before.before.before.before.before.before.if1.false _ _ _ _ c.before.before.before.before.before.before.before.run.ensures.0 c.before.before.before.before.before.before.before.run.ensures.1 c.before.before.before.before.before.before.before.run.ensures.2 _ c.before.counted.ensures c.answer-of2.ensures
+returns-2 c = run_plainly _ _ _ _ _ _ _ c.before.before.before.before.before.before.before.before.before.before.before.before.start-answer.ensures _ c.before.before.before.before.before.before.before.before.before.before.before.if1.false _ _ _ _ c.before.before.before.before.before.before.before.run.ensures.0 c.before.before.before.before.before.before.before.run.ensures.1 c.before.before.before.before.before.before.before.run.ensures.2 _ c.before.counted.ensures c.answer-of2.ensures
 
 pub run-numbers-spec : {M : Type 1} → statement M
 run-numbers-spec =

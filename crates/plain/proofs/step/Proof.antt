@@ -1,6 +1,6 @@
 -- `step` meets its contract. Assumes nothing.
 use borrow.Author.Rules.{rules}
-use Rattle.plain.proofs.PlainLaws.{without-trace}
+use Rattle.plain.proofs.PlainLaws.{without_trace}
 use Rattle.plain.proofs.step.Statement.{statement}
 use Rattle.plain.proofs.step.Tie as tie
 
@@ -14,7 +14,7 @@ same_length : tie.Need-same-length
 same_length c = search rules
 
 returns : tie.Need-returns
-returns c = without-trace _ _ _ _ _ _ _ c.before.before.before.run-numbers.ensures
+returns c = without_trace _ _ _ _ _ _ _ c.before.before.before.run-numbers.ensures
 
 pub step_spec : {M : Type 1} → statement M
 step_spec =

@@ -1,6 +1,6 @@
 -- `quick` meets its contract. Assumes nothing.
 use borrow.Author.Rules.{rules}
-use Rattle.processor.proofs.FormLaws.{code_fits, code_inside, quick-ready}
+use Rattle.processor.proofs.FormLaws.{code_fits, code_inside, quick_ready}
 use Rattle.processor.proofs.quick.Statement.{statement}
 use Rattle.processor.proofs.quick.Tie as tie
 
@@ -38,7 +38,7 @@ first-address-requires : tie.Need-first-address-requires
 first-address-requires c κs = search rules
 
 returns-5 : tie.Need-returns-5
-returns-5 c = quick-ready _ _ _ c.before.before.before.before.before.before.before.before.before.before.before.before.before.before.requires.2 c.before.before.before.before.before.before.before.before.before.before.if1.false c.before.before.before.before.before.before.before.if2.false _ c.before.before.before.before.before.before.length-of.ensures.0 c.before.before.before.before.if3.false c.before.before.before.read.ensures _ _ c.before.before.is-indirect.ensures c.before.if4.false c.first-address.ensures.0 c.first-address.ensures.1
+returns-5 c = quick_ready _ _ _ c.before.before.before.before.before.before.before.before.before.before.before.before.before.before.requires.2 c.before.before.before.before.before.before.before.before.before.before.if1.false c.before.before.before.before.before.before.before.if2.false _ c.before.before.before.before.before.before.length-of.ensures.0 c.before.before.before.before.if3.false c.before.before.before.read.ensures _ _ c.before.before.is-indirect.ensures c.before.if4.false c.first-address.ensures.0 c.first-address.ensures.1
 
 pub quick-spec : {M : Type 1} → statement M
 quick-spec =

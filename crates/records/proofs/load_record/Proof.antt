@@ -1,7 +1,7 @@
 -- `load_record` meets its contract. Assumes nothing.
 use borrow.Author.Rules.{rules}
-use Rattle.records.proofs.PartLaws.{whole-records}
-use Rattle.loading.specs.Record.{Outcome-within}
+use Rattle.records.proofs.PartLaws.{whole_records}
+use Rattle.loading.specs.Record.{OutcomeWithin}
 use Rattle.records.proofs.load_record.Statement.{statement}
 use Rattle.records.proofs.load_record.Tie as tie
 
@@ -21,25 +21,25 @@ enum_told : tie.Need-enum-told
 enum_told c = search rules
 
 load-memory-requires : tie.Need-load-memory-requires
-load-memory-requires c κs = search (rules, whole-records)
+load-memory-requires c κs = search (rules, whole_records)
 
 enum-told-2 : tie.Need-enum-told-2
 enum-told-2 c = search rules
 
 load-start-requires : tie.Need-load-start-requires
-load-start-requires c κs = search (rules, whole-records)
+load-start-requires c κs = search (rules, whole_records)
 
 enum-told-3 : tie.Need-enum-told-3
 enum-told-3 c = search rules
 
 load-word-requires : tie.Need-load-word-requires
-load-word-requires c κs = search (rules, whole-records)
+load-word-requires c κs = search (rules, whole_records)
 
 enum-told-4 : tie.Need-enum-told-4
 enum-told-4 c = search rules
 
 load-run-requires : tie.Need-load-run-requires
-load-run-requires c κs = search (rules, whole-records)
+load-run-requires c κs = search (rules, whole_records)
 
 enum-told-5 : tie.Need-enum-told-5
 enum-told-5 c = search rules
@@ -60,8 +60,8 @@ returns-5 : tie.Need-returns-5
 returns-5 c = search (rules, c.load-run.ensures)
 
 returns-6 : tie.Need-returns-6
-unfolding Outcome-within
-returns-6 c = search (rules, whole-records)
+unfolding OutcomeWithin
+returns-6 c = search (rules, whole_records)
 
 pub load-record-spec : {M : Type 1} → statement M
 load-record-spec =

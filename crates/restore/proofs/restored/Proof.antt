@@ -1,5 +1,5 @@
 -- `restored` meets its contract. Assumes nothing.
-use Rattle.restore.proofs.TakeLaws.{restorings, restored-refused, restored-taken}
+use Rattle.restore.proofs.TakeLaws.{restorings, restored_refused, restored_taken}
 use borrow.Author.Rules.{rules}
 use Rattle.restore.proofs.restored.Statement.{statement}
 use Rattle.restore.proofs.restored.Tie as tie
@@ -20,10 +20,10 @@ take-up-requires : tie.Need-take-up-requires
 take-up-requires c κs = search (rules, restorings)
 
 returns : tie.Need-returns
-returns c = search (rules, restored-refused)
+returns c = search (rules, restored_refused)
 
 returns-2 : tie.Need-returns-2
-returns-2 c = search (rules, restored-taken)
+returns-2 c = search (rules, restored_taken)
 
 pub restored-spec : {M : Type 1} → statement M
 restored-spec =

@@ -2,14 +2,14 @@
 use mathlib.Core.Path.{◌≡◌}
 use Prim.Native.Nat.{◌-◌, ◌≤◌}
 use lib.ListN.{drop}
-use Rattle.state.specs.View.{as-pointers}
-use Rattle.restore.proofs.TakeLaws.{taken-first, takes}
+use Rattle.state.specs.View.{as_pointers}
+use Rattle.restore.proofs.TakeLaws.{taken_first, takes}
 use borrow.Author.Rules.{rules}
 use Rattle.restore.proofs.take_prs.Statement.{statement}
 use Rattle.restore.proofs.take_prs.Tie as tie
 
 abbrev invariant-loop : tie.invariant-loop
-invariant-loop prs₀ frame k₀ prs k = (k ≤ 8) × (as-pointers prs ≡ taken-first k (drop 5 frame) (as-pointers prs₀))
+invariant-loop prs₀ frame k₀ prs k = (k ≤ 8) × (as_pointers prs ≡ taken_first k (drop 5 frame) (as_pointers prs₀))
 
 abbrev decreases-loop : tie.decreases-loop
 decreases-loop prs₀ frame k₀ prs k = 8 - k

@@ -2,16 +2,16 @@
 use mathlib.Core.Path.{◌≡◌}
 use Prim.Native.Nat.{◌*◌, ◌≤◌}
 use lib.ListN.{length}
-use Rattle.model.specs.Questions.{start-questions}
-use Rattle.state.specs.View.{as-machine, as-delivery}
+use Rattle.model.specs.Questions.{start_questions}
+use Rattle.state.specs.View.{as_machine, as_delivery}
 use borrow.Author.Rules.{rules}
-use Rattle.simulate.proofs.PrintLaws.{goes-on-few, prints}
+use Rattle.simulate.proofs.PrintLaws.{goes_on_few, prints}
 use Rattle.simulate.proofs.print_listing.Statement.{statement}
 use Rattle.simulate.proofs.print_listing.Tie as tie
 
 abbrev invariant-loop : tie.invariant-loop
 invariant-loop delivery memory₀ budget text₀ prs₀ x₀ turns₀ memory text prs x turns =
-    (65536 ≡ length text) × (x.count ≤ budget) × (length memory ≡ length memory₀) × (start-questions (as-delivery delivery) (as-machine x.line.core prs memory) ≡ 0)
+    (65536 ≡ length text) × (x.count ≤ budget) × (length memory ≡ length memory₀) × (start_questions (as_delivery delivery) (as_machine x.line.core prs memory) ≡ 0)
     × (x.line.total ≤ 64 * x.count)
 
 abbrev decreases-loop : tie.decreases-loop
@@ -54,7 +54,7 @@ loop-less : tie.Need-loop-smaller invariant-loop decreases-loop
 loop-less c = search (rules, prints)
 
 loop-again : tie.Need-loop-preserved invariant-loop decreases-loop
-loop-again c = (search (rules, prints), search (rules, prints), search (rules, prints), search (rules, prints), goes-on-few _ _ _ _ _ _ _ _ c.before.before.before.before.before.before.before.list.ensures (search rules))
+loop-again c = (search (rules, prints), search (rules, prints), search (rules, prints), search (rules, prints), goes_on_few _ _ _ _ _ _ _ _ c.before.before.before.before.before.before.before.list.ensures (search rules))
 
 same-length-3 : tie.Need-same-length-3 invariant-loop decreases-loop
 same-length-3 c = search (rules, prints)

@@ -1,6 +1,6 @@
 -- `run_image` meets its contract. Assumes nothing.
 use borrow.Author.Rules.{rules}
-use Rattle.machine.proofs.AskLaws.{prepared-passes}
+use Rattle.machine.proofs.AskLaws.{prepared_passes}
 use Rattle.simulate.proofs.run_image.Statement.{statement}
 use Rattle.simulate.proofs.run_image.Tie as tie
 
@@ -17,7 +17,7 @@ returns : tie.Need-returns
 returns c = search rules
 
 print-listing-requires : tie.Need-print-listing-requires
-print-listing-requires c κs = search (rules, prepared-passes)
+print-listing-requires c κs = search (rules, prepared_passes)
 
 same-length-2 : tie.Need-same-length-2
 same-length-2 c = search rules

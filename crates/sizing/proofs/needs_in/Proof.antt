@@ -1,6 +1,6 @@
 -- `needs_in` meets its contract. Assumes nothing.
 use borrow.Author.Rules.{rules}
-use Rattle.sizing.proofs.SizingLaws.{whole-image}
+use Rattle.sizing.proofs.SizingLaws.{whole_image}
 use Rattle.sizing.proofs.needs_in.Statement.{statement}
 use Rattle.sizing.proofs.needs_in.Tie as tie
 
@@ -14,7 +14,7 @@ slice-aggregate-load : tie.Need-slice-aggregate-load
 slice-aggregate-load c = search rules
 
 load-requires : tie.Need-load-requires
-load-requires c κs = search (rules, whole-image)
+load-requires c κs = search (rules, whole_image)
 
 enum-known-outcome : tie.Need-enum-known-outcome
 enum-known-outcome c = search rules
@@ -35,13 +35,13 @@ needs-of-requires : tie.Need-needs-of-requires
 needs-of-requires c κs = search rules
 
 returns : tie.Need-returns
-returns c = search (rules, whole-image)
+returns c = search (rules, whole_image)
 
 returns-2 : tie.Need-returns-2
-returns-2 c = search (rules, whole-image)
+returns-2 c = search (rules, whole_image)
 
 returns-3 : tie.Need-returns-3
-returns-3 c = search (rules, whole-image)
+returns-3 c = search (rules, whole_image)
 
 pub needs-in-spec : {M : Type 1} → statement M
 needs-in-spec =

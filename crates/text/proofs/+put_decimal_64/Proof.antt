@@ -3,7 +3,7 @@ use Prim.Native.Nat.{ℕ, ◌<◌}
 use borrow.Author.Rules.{rules}
 use borrow.Fn.Kinds.{In}
 use borrow.Fn.PlainCycle.{Measures, is, falls, and}
-use Rattle.text.proofs.DigitLaws.{last-digit-laws}
+use Rattle.text.proofs.DigitLaws.{last_digit_laws}
 use Rattle.text.proofs.put_decimal_64.Reads as reads
 use Rattle.text.proofs.put_decimal_64.Kinds as kinds
 use Rattle.text.proofs.+put_decimal_64.Lts-put_decimal_64 as lts
@@ -32,7 +32,7 @@ pub +put-decimal-64-spec : {M : Type 1} → statement M
     (λ c κs. search rules)
     (λ c. search rules)
     (λ c. search rules)
-    (λ c. search (rules, last-digit-laws))
+    (λ c. search (rules, last_digit_laws))
     (λ c. search rules)
     (λ c. search rules)
-    (λ c. search (rules, last-digit-laws))
+    (λ c. search (rules, last_digit_laws))

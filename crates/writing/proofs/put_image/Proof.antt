@@ -2,7 +2,7 @@
 use mathlib.Core.Path.{refl}
 use borrow.Author.Rules.{rules}
 use Rattle.model.specs.Listing.{ascii}
-use Rattle.writing.proofs.PutLaws.{image-put}
+use Rattle.writing.proofs.PutLaws.{image_put}
 use Rattle.writing.proofs.put_image.Statement.{statement}
 use Rattle.writing.proofs.put_image.Tie as tie
 
@@ -30,11 +30,11 @@ same_length c = search rules
 returns : tie.Need-returns
 unfolding ascii
 returns c =
-    let after-words = c.before.before.before.before.before.before.before in
-    let after-start = after-words.before.before.before.before in
-    let after-size = after-start.before.before.before.before in
-    let start = after-size.before.before.before.before.before in
-    image-put _ _ _ _ _ _ _ _ _ _ _ _ _ _ refl refl after-size.put-marked.ensures after-start.put-start.ensures after-words.put-words.ensures
+    let after_words = c.before.before.before.before.before.before.before in
+    let after_start = after_words.before.before.before.before in
+    let after_size = after_start.before.before.before.before in
+    let start = after_size.before.before.before.before.before in
+    image_put _ _ _ _ _ _ _ _ _ _ _ _ _ _ refl refl after_size.put-marked.ensures after_start.put-start.ensures after_words.put-words.ensures
     c.before.before.put-marked2.ensures start.requires
 
 pub put-image-spec : {M : Type 1} → statement M

@@ -1,7 +1,7 @@
 -- `line::put_check` meets its contract. Assumes nothing.
-use Rattle.model.specs.Listing.{ascii, line, refusal-line, check-line}
-use Rattle.checks.proofs.NumberLaws.{pointer-within, ring-within}
-use Rattle.checks.proofs.LineLaws.{line-laws}
+use Rattle.model.specs.Listing.{ascii, line, refusal_line, check_line}
+use Rattle.checks.proofs.NumberLaws.{pointer_within, ring_within}
+use Rattle.checks.proofs.LineLaws.{line_laws}
 use borrow.Author.Rules.{rules}
 use Rattle.checks.proofs.line.put_check.Statement.{statement}
 use Rattle.checks.proofs.line.put_check.Tie as tie
@@ -22,7 +22,7 @@ enum-known-verdict-2 : tie.Need-enum-known-verdict-2
 enum-known-verdict-2 c = search rules
 
 put-fault-requires : tie.Need-put-fault-requires
-put-fault-requires c κs = let w = pointer-within _ _ _ c.before.before.verdict2.given.1 c.before.before.before.before.before.requires.1 in search rules
+put-fault-requires c κs = let w = pointer_within _ _ _ c.before.before.verdict2.given.1 c.before.before.before.before.before.requires.1 in search rules
 
 enum-known-verdict-3 : tie.Need-enum-known-verdict-3
 enum-known-verdict-3 c = search rules
@@ -31,7 +31,7 @@ slice-aggregate-put-named-2 : tie.Need-slice-aggregate-put-named-2
 slice-aggregate-put-named-2 c = search rules
 
 cast-put-named-2 : tie.Need-overflow-cast-put-named-2
-cast-put-named-2 c = let w = ring-within _ _ c.before.before.before.verdict3.given.1 c.before.before.before.before.before.before.requires.1 in search rules
+cast-put-named-2 c = let w = ring_within _ _ c.before.before.before.verdict3.given.1 c.before.before.before.before.before.before.requires.1 in search rules
 
 put-named-requires-2 : tie.Need-put-named-requires-2
 put-named-requires-2 c κs = search rules
@@ -40,22 +40,22 @@ same_length : tie.Need-same-length
 same_length c = search rules
 
 returns : tie.Need-returns
-unfolding ascii line refusal-line check-line
-returns c = search (rules, line-laws)
+unfolding ascii line refusal_line check_line
+returns c = search (rules, line_laws)
 
 same-length-2 : tie.Need-same-length-2
 same-length-2 c = search rules
 
 returns-2 : tie.Need-returns-2
-unfolding ascii line check-line
-returns-2 c = search (rules, line-laws)
+unfolding ascii line check_line
+returns-2 c = search (rules, line_laws)
 
 same-length-3 : tie.Need-same-length-3
 same-length-3 c = search rules
 
 returns-3 : tie.Need-returns-3
-unfolding ascii line check-line
-returns-3 c = search (rules, line-laws)
+unfolding ascii line check_line
+returns-3 c = search (rules, line_laws)
 
 pub put-check-spec : {M : Type 1} → statement M
 put-check-spec =

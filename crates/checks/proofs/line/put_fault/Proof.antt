@@ -1,6 +1,6 @@
 -- `line::put_fault` meets its contract. Assumes nothing.
 use Rattle.model.specs.Listing.{ascii}
-use Rattle.checks.proofs.LineLaws.{next-after-fault, fault-put}
+use Rattle.checks.proofs.LineLaws.{next_after_fault, fault_put}
 use borrow.Author.Rules.{rules}
 use Rattle.checks.proofs.line.put_fault.Statement.{statement}
 use Rattle.checks.proofs.line.put_fault.Tie as tie
@@ -25,7 +25,7 @@ same_length c = search rules
 
 returns : tie.Need-returns
 unfolding ascii
-returns c = (search fault-put, search next-after-fault, search rules)
+returns c = (search fault_put, search next_after_fault, search rules)
 
 pub put-fault-spec : {M : Type 1} → statement M
 put-fault-spec =

@@ -1,6 +1,6 @@
 -- `compact::compact` meets its contract. Assumes nothing.
 use borrow.Author.Rules.{rules}
-use Rattle.compaction.proofs.CompactLaws.{part-size}
+use Rattle.compaction.proofs.CompactLaws.{part_size}
 use Rattle.compaction.proofs.compact.compact.Statement.{statement}
 use Rattle.compaction.proofs.compact.compact.Tie as tie
 
@@ -8,7 +8,7 @@ slice-reshare-prefix-note-last : tie.Need-slice-reshare-prefix-note-last
 slice-reshare-prefix-note-last c = search rules
 
 slice-aggregate-note-last : tie.Need-slice-aggregate-note-last
-slice-aggregate-note-last c = search (rules, part-size)
+slice-aggregate-note-last c = search (rules, part_size)
 
 note-last-requires : tie.Need-note-last-requires
 note-last-requires c κs = search rules

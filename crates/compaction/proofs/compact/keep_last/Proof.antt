@@ -1,12 +1,12 @@
 -- `compact::keep_last` meets its contract. Assumes nothing.
 use Prim.Native.Nat.{◌-◌}
 use borrow.Author.Rules.{rules}
-use Rattle.compaction.proofs.CompactLaws.{Compacted-so-far, compacts}
+use Rattle.compaction.proofs.CompactLaws.{CompactedSoFar, compacts}
 use Rattle.compaction.proofs.compact.keep_last.Statement.{statement}
 use Rattle.compaction.proofs.compact.keep_last.Tie as tie
 
 abbrev invariant-loop : tie.invariant-loop
-invariant-loop buffer₀ end last from₀ to₀ buffer from to = Compacted-so-far end buffer₀ last from to buffer
+invariant-loop buffer₀ end last from₀ to₀ buffer from to = CompactedSoFar end buffer₀ last from to buffer
 
 abbrev decreases-loop : tie.decreases-loop
 decreases-loop buffer₀ end last from₀ to₀ buffer from to = end - from

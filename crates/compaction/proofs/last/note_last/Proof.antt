@@ -2,12 +2,12 @@
 use Prim.Native.Nat.{◌-◌}
 use lib.ListN.{length}
 use borrow.Author.Rules.{rules}
-use Rattle.compaction.proofs.LastLaws.{Noted-so-far, notes}
+use Rattle.compaction.proofs.LastLaws.{NotedSoFar, notes}
 use Rattle.compaction.proofs.last.note_last.Statement.{statement}
 use Rattle.compaction.proofs.last.note_last.Tie as tie
 
 abbrev invariant-loop : tie.invariant-loop
-invariant-loop bytes last₀ at₀ last at = Noted-so-far bytes last₀ at last
+invariant-loop bytes last₀ at₀ last at = NotedSoFar bytes last₀ at last
 
 abbrev decreases-loop : tie.decreases-loop
 decreases-loop bytes last₀ at₀ last at = length bytes - at

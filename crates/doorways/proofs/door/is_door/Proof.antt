@@ -1,5 +1,5 @@
 -- `door::is_door` meets its contract. Assumes nothing.
-use Rattle.doorways.proofs.DoorLaws.{is-door-law}
+use Rattle.doorways.proofs.DoorLaws.{is_door_law}
 use borrow.Author.Rules.{rules}
 use Rattle.doorways.proofs.door.is_door.Statement.{statement}
 use Rattle.doorways.proofs.door.is_door.Tie as tie
@@ -11,7 +11,7 @@ leads-down-requires : tie.Need-leads-down-requires
 leads-down-requires c κs = search rules
 
 returns : tie.Need-returns
-returns c = search (rules, is-door-law)
+returns c = search (rules, is_door_law)
 
 pub is-door-spec : {M : Type 1} → statement M
 is-door-spec = tie.close (tie.spec descriptor-answer-requires leads-down-requires returns)

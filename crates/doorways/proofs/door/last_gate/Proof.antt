@@ -1,5 +1,5 @@
 -- `door::last_gate` meets its contract. Assumes nothing.
-use Rattle.doorways.proofs.DoorLaws.{has-gate, has_word}
+use Rattle.doorways.proofs.DoorLaws.{has_gate, has_word}
 use borrow.Author.Rules.{rules}
 use Rattle.doorways.proofs.door.last_gate.Statement.{statement}
 use Rattle.doorways.proofs.door.last_gate.Tie as tie
@@ -11,7 +11,7 @@ length-of-requires : tie.Need-length-of-requires
 length-of-requires c κs = search rules
 
 sub-result : tie.Need-overflow-sub-result
-sub-result c = search (rules, has-gate)
+sub-result c = search (rules, has_gate)
 
 returns : tie.Need-returns
 returns c = search rules

@@ -1,5 +1,5 @@
 -- `door::leads_down` meets its contract. Assumes nothing.
-use Rattle.doorways.proofs.DoorLaws.{leads-down-by}
+use Rattle.doorways.proofs.DoorLaws.{leads_down_by}
 use borrow.Author.Rules.{rules}
 use Rattle.doorways.proofs.door.leads_down.Statement.{statement}
 use Rattle.doorways.proofs.door.leads_down.Tie as tie
@@ -20,7 +20,7 @@ r3-of-requires : tie.Need-r3-of-requires
 r3-of-requires c κs = search rules
 
 returns : tie.Need-returns
-returns c = search (rules, leads-down-by)
+returns c = search (rules, leads_down_by)
 
 pub leads-down-spec : {M : Type 1} → statement M
 leads-down-spec =

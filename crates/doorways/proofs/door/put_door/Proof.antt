@@ -1,7 +1,7 @@
 -- `door::put_door` meets its contract. Assumes nothing.
 use Rattle.model.specs.Listing.{ascii}
-use Rattle.doorways.proofs.DoorLaws.{r3-one-digit}
-use Rattle.doorways.proofs.LineLaws.{door-put}
+use Rattle.doorways.proofs.DoorLaws.{r3_one_digit}
+use Rattle.doorways.proofs.LineLaws.{door_put}
 use borrow.Author.Rules.{rules}
 use Rattle.doorways.proofs.door.put_door.Statement.{statement}
 use Rattle.doorways.proofs.door.put_door.Tie as tie
@@ -34,7 +34,7 @@ r3-of-requires : tie.Need-r3-of-requires
 r3-of-requires c κs = search rules
 
 put-digit-requires-2 : tie.Need-put-digit-requires-2
-put-digit-requires-2 c κs = search (rules, r3-one-digit)
+put-digit-requires-2 c κs = search (rules, r3_one_digit)
 
 put-digit-requires-3 : tie.Need-put-digit-requires-3
 put-digit-requires-3 c κs = search rules
@@ -44,7 +44,7 @@ same_length c = search rules
 
 returns : tie.Need-returns
 unfolding ascii
-returns c = search (rules, door-put)
+returns c = search (rules, door_put)
 
 pub put-door-spec : {M : Type 1} → statement M
 put-door-spec =

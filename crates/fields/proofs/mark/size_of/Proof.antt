@@ -1,6 +1,6 @@
 -- `mark::size_of` meets its contract. Assumes nothing.
 use borrow.Author.Rules.{rules}
-use Rattle.fields.proofs.MarkLaws.{start-sizes}
+use Rattle.fields.proofs.MarkLaws.{start_sizes}
 use Rattle.fields.proofs.mark.size_of.Statement.{statement}
 use Rattle.fields.proofs.mark.size_of.Tie as tie
 
@@ -26,7 +26,7 @@ returns : tie.Need-returns
 returns c = search rules
 
 returns-2 : tie.Need-returns-2
-returns-2 c = search (rules, start-sizes)
+returns-2 c = search (rules, start_sizes)
 
 returns-3 : tie.Need-returns-3
 returns-3 c = search rules

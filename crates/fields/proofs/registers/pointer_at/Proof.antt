@@ -1,6 +1,6 @@
 -- `registers::pointer_at` meets its contract. Assumes nothing.
 use borrow.Author.Rules.{rules}
-use Rattle.fields.proofs.RegisterLaws.{registers-in}
+use Rattle.fields.proofs.RegisterLaws.{registers_in}
 use Rattle.fields.proofs.registers.pointer_at.Statement.{statement}
 use Rattle.fields.proofs.registers.pointer_at.Tie as tie
 
@@ -20,7 +20,7 @@ number-2-requires-2 : tie.Need-number-2-requires-2
 number-2-requires-2 c κs = search rules
 
 returns : tie.Need-returns
-returns c = search (rules, registers-in)
+returns c = search (rules, registers_in)
 
 pub pointer-at-spec : {M : Type 1} → statement M
 pointer-at-spec =

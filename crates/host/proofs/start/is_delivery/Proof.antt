@@ -2,10 +2,10 @@
 use mathlib.Core.Path.{refl}
 use Rattle.host.proofs.start.is_delivery.Statement.{statement}
 use Rattle.host.proofs.start.is_delivery.Tie as tie
-use Rattle.model.specs.Questions.{delivery-in-range}
+use Rattle.model.specs.Questions.{delivery_in_range}
 
 returns : tie.Need-returns
-unfolding delivery-in-range
+unfolding delivery_in_range
 returns c = refl
 
 pub is-delivery-spec : {M : Type 1} → statement M

@@ -2,10 +2,10 @@
 use mathlib.Core.Path.{refl}
 use Rattle.host.proofs.start.is_in_range.Statement.{statement}
 use Rattle.host.proofs.start.is_in_range.Tie as tie
-use Rattle.model.specs.Questions.{pointer-in-range}
+use Rattle.model.specs.Questions.{pointer_in_range}
 
 returns : tie.Need-returns
-unfolding pointer-in-range
+unfolding pointer_in_range
 returns c = refl
 
 pub is-in-range-spec : {M : Type 1} → statement M

@@ -1,6 +1,6 @@
 -- `start::rings_of` meets its contract. Assumes nothing.
 use borrow.Author.Rules.{rules}
-use Rattle.host.proofs.RingLaws.{eight-at-once}
+use Rattle.host.proofs.RingLaws.{eight_at_once}
 use Rattle.host.proofs.start.rings_of.Statement.{statement}
 use Rattle.host.proofs.start.rings_of.Tie as tie
 
@@ -71,7 +71,7 @@ add-result-7 : tie.Need-overflow-add-result-7
 add-result-7 c = search rules
 
 returns : tie.Need-returns
-returns c = search (rules, eight-at-once)
+returns c = search (rules, eight_at_once)
 
 pub rings-of-spec : {M : Type 1} → statement M
 rings-of-spec =

@@ -1,6 +1,6 @@
 -- `start::segments_of` meets its contract. Assumes nothing.
 use borrow.Author.Rules.{rules}
-use Rattle.host.proofs.RingLaws.{eight-at-once}
+use Rattle.host.proofs.RingLaws.{eight_at_once}
 use Rattle.host.proofs.start.segments_of.Statement.{statement}
 use Rattle.host.proofs.start.segments_of.Tie as tie
 
@@ -29,7 +29,7 @@ segment-of-requires-8 : tie.Need-segment-of-requires-8
 segment-of-requires-8 c κs = search rules
 
 returns : tie.Need-returns
-returns c = search (rules, eight-at-once)
+returns c = search (rules, eight_at_once)
 
 pub segments-of-spec : {M : Type 1} → statement M
 segments-of-spec =

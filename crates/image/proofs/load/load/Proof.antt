@@ -3,13 +3,13 @@ use Prim.Native.Nat.{◌-◌}
 use native.Mathlib.Omega.{arith}
 use lib.ListN.{length}
 use borrow.Author.Rules.{rules}
-use Rattle.image.specs.Load.{Loaded-so-far}
-use Rattle.image.proofs.LoadLaws.{next-in-bytes, next-less, one_more, loads}
+use Rattle.image.specs.Load.{LoadedSoFar}
+use Rattle.image.proofs.LoadLaws.{next_in_bytes, next_less, one_more, loads}
 use Rattle.image.proofs.load.load.Statement.{statement}
 use Rattle.image.proofs.load.load.Tie as tie
 
 abbrev invariant-loop : tie.invariant-loop
-invariant-loop store₀ bytes ended x₀ at₀ store x at = Loaded-so-far x₀.loading store₀ bytes ended at x.loading store
+invariant-loop store₀ bytes ended x₀ at₀ store x at = LoadedSoFar x₀.loading store₀ bytes ended at x.loading store
 
 abbrev decreases-loop : tie.decreases-loop
 decreases-loop store₀ bytes ended x₀ at₀ store x at = length bytes - at
@@ -51,10 +51,10 @@ enum-known-outcome-2 : tie.Need-enum-known-outcome-2 invariant-loop decreases-lo
 enum-known-outcome-2 c = search (rules, loads)
 
 add_at : tie.Need-overflow-add-at invariant-loop decreases-loop
-add_at c = let y = next-in-bytes c.before.before.before.before.before.before.before.before.loop.invariant c.before.before.before.before.before.load-next.ensures c.before.outcome2.given.1 in omega arith
+add_at c = let y = next_in_bytes c.before.before.before.before.before.before.before.before.loop.invariant c.before.before.before.before.before.load-next.ensures c.before.outcome2.given.1 in omega arith
 
 loop-less : tie.Need-loop-smaller invariant-loop decreases-loop
-loop-less c = next-less c.before.before.before.before.before.before.before.before.loop.invariant c.before.before.before.before.before.load-next.ensures c.before.outcome2.given.1
+loop-less c = next_less c.before.before.before.before.before.before.before.before.loop.invariant c.before.before.before.before.before.load-next.ensures c.before.outcome2.given.1
 
 loop-again : tie.Need-loop-preserved invariant-loop decreases-loop
 loop-again c = one_more c.before.before.before.before.before.before.before.before.loop.invariant c.before.before.before.before.before.load-next.ensures c.before.outcome2.given.1

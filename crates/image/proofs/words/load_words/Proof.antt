@@ -3,13 +3,13 @@ use mathlib.Core.Path.{◌≡◌}
 use Prim.Native.Nat.{◌-◌, ◌≤◌}
 use lib.ListN.{length}
 use borrow.Author.Rules.{rules}
-use Rattle.image.specs.Load.{Words-loaded}
+use Rattle.image.specs.Load.{WordsLoaded}
 use Rattle.image.proofs.LoadLaws.{words}
 use Rattle.image.proofs.words.load_words.Statement.{statement}
 use Rattle.image.proofs.words.load_words.Tie as tie
 
 abbrev invariant-loop : tie.invariant-loop
-invariant-loop loading store₀ bytes at₀ store at = Words-loaded loading store₀ bytes at store × (at ≤ length bytes) × (length store ≡ length store₀)
+invariant-loop loading store₀ bytes at₀ store at = WordsLoaded loading store₀ bytes at store × (at ≤ length bytes) × (length store ≡ length store₀)
 
 abbrev decreases-loop : tie.decreases-loop
 decreases-loop loading store₀ bytes at₀ store at = length bytes - at

@@ -1,6 +1,6 @@
 -- `word::load_word` meets its contract. Assumes nothing.
 use borrow.Author.Rules.{rules}
-use Rattle.loading.proofs.RecordLaws.{word-recorded}
+use Rattle.loading.proofs.RecordLaws.{word_recorded}
 use Rattle.loading.proofs.word.load_word.Statement.{statement}
 use Rattle.loading.proofs.word.load_word.Tie as tie
 
@@ -11,13 +11,13 @@ same_length : tie.Need-same-length
 same_length c = search rules
 
 returns : tie.Need-returns
-returns c = search (rules, word-recorded)
+returns c = search (rules, word_recorded)
 
 same-length-2 : tie.Need-same-length-2
 same-length-2 c = search rules
 
 returns-2 : tie.Need-returns-2
-returns-2 c = search (rules, word-recorded)
+returns-2 c = search (rules, word_recorded)
 
 pub load-word-spec : {M : Type 1} → statement M
 load-word-spec =

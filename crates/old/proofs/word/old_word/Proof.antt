@@ -1,7 +1,7 @@
 -- `word::old_word` meets its contract. Assumes nothing.
 use mathlib.Core.Path.{refl}
 use Rattle.model.specs.Words.{field}
-use Rattle.model.specs.Old.{old-word}
+use Rattle.model.specs.Old.{old_word}
 use borrow.Author.Rules.{rules}
 use Rattle.old.proofs.word.old_word.Statement.{statement}
 use Rattle.old.proofs.word.old_word.Tie as tie
@@ -19,7 +19,7 @@ add-result-2 : tie.Need-overflow-add-result-2
 add-result-2 c = search rules
 
 returns : tie.Need-returns
-unfolding old-word field
+unfolding old_word field
 returns c = refl
 
 pub old-word-spec : {M : Type 1} → statement M

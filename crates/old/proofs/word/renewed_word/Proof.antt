@@ -1,7 +1,7 @@
 -- `word::renewed_word` meets its contract. Assumes nothing.
 use mathlib.Core.Path.{refl}
 use Rattle.model.specs.Words.{field}
-use Rattle.model.specs.Old.{renewed-word}
+use Rattle.model.specs.Old.{renewed_word}
 use borrow.Author.Rules.{rules}
 use Rattle.old.proofs.word.renewed_word.Statement.{statement}
 use Rattle.old.proofs.word.renewed_word.Tie as tie
@@ -37,7 +37,7 @@ add-result-5 : tie.Need-overflow-add-result-5
 add-result-5 c = search rules
 
 returns : tie.Need-returns
-unfolding renewed-word field
+unfolding renewed_word field
 returns c = refl
 
 pub renewed-word-spec : {M : Type 1} → statement M

@@ -1,6 +1,6 @@
 -- `access::dbr_loaded` meets its contract. Assumes nothing.
 use borrow.Author.Rules.{rules}
-use Rattle.state.proofs.DoesLaws.{after-reads}
+use Rattle.state.proofs.DoesLaws.{after_reads}
 use Rattle.operations.proofs.access.dbr_loaded.Statement.{statement}
 use Rattle.operations.proofs.access.dbr_loaded.Tie as tie
 
@@ -17,10 +17,10 @@ take-dbr-requires : tie.Need-take-dbr-requires
 take-dbr-requires c κs = search rules
 
 returns : tie.Need-returns
-returns c = search (rules, after-reads)
+returns c = search (rules, after_reads)
 
 returns-2 : tie.Need-returns-2
-returns-2 c = search (rules, after-reads)
+returns-2 c = search (rules, after_reads)
 
 pub dbr-loaded-spec : {M : Type 1} → statement M
 dbr-loaded-spec =

@@ -1,6 +1,6 @@
 -- `access::loaded` meets its contract. Assumes nothing.
 use borrow.Author.Rules.{rules}
-use Rattle.state.proofs.DoesLaws.{after-reads}
+use Rattle.state.proofs.DoesLaws.{after_reads}
 use Rattle.operations.proofs.access.loaded.Statement.{statement}
 use Rattle.operations.proofs.access.loaded.Tie as tie
 
@@ -17,10 +17,10 @@ with-result-requires : tie.Need-with-result-requires
 with-result-requires c κs = search rules
 
 returns : tie.Need-returns
-returns c = search (rules, after-reads)
+returns c = search (rules, after_reads)
 
 returns-2 : tie.Need-returns-2
-returns-2 c = search (rules, after-reads)
+returns-2 c = search (rules, after_reads)
 
 pub loaded-spec : {M : Type 1} → statement M
 loaded-spec =

@@ -1,6 +1,6 @@
 -- `access::with_result` meets its contract. Assumes nothing.
 use borrow.Author.Rules.{rules}
-use Rattle.operations.proofs.AccessLaws.{a-set}
+use Rattle.operations.proofs.AccessLaws.{a_set}
 use Rattle.operations.proofs.access.with_result.Statement.{statement}
 use Rattle.operations.proofs.access.with_result.Tie as tie
 
@@ -14,7 +14,7 @@ completed-requires : tie.Need-completed-requires
 completed-requires c κs = search rules
 
 returns : tie.Need-returns
-returns c = search (rules, a-set)
+returns c = search (rules, a_set)
 
 pub with-result-spec : {M : Type 1} → statement M
 with-result-spec =

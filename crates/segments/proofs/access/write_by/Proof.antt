@@ -1,26 +1,26 @@
 -- `access::write_by` meets its contract. Assumes nothing.
 use borrow.Author.Rules.{rules}
-use Rattle.segments.proofs.UseLaws.{words-there}
+use Rattle.segments.proofs.UseLaws.{words_there}
 use Rattle.segments.proofs.access.write_by.Statement.{statement}
 use Rattle.segments.proofs.access.write_by.Tie as tie
 
 enum-known-x : tie.Need-enum-known-x
-enum-known-x c = search (rules, words-there)
+enum-known-x c = search (rules, words_there)
 
 enum-known-x-2 : tie.Need-enum-known-x-2
-enum-known-x-2 c = search (rules, words-there)
+enum-known-x-2 c = search (rules, words_there)
 
 write-requires : tie.Need-write-requires
-write-requires c κs = search (rules, words-there)
+write-requires c κs = search (rules, words_there)
 
 returns : tie.Need-returns
-returns c = search (rules, words-there)
+returns c = search (rules, words_there)
 
 same_length : tie.Need-same-length
-same_length c = search (rules, words-there)
+same_length c = search (rules, words_there)
 
 returns-2 : tie.Need-returns-2
-returns-2 c = search (rules, words-there)
+returns-2 c = search (rules, words_there)
 
 pub write-by-spec : {M : Type 1} → statement M
 write-by-spec =

@@ -1,6 +1,6 @@
 -- `segment::segment_words` meets its contract. Assumes nothing.
 use borrow.Author.Rules.{rules}
-use Rattle.segments.proofs.SegmentLaws.{part-law}
+use Rattle.segments.proofs.SegmentLaws.{part_law}
 use Rattle.segments.proofs.segment.segment_words.Statement.{statement}
 use Rattle.segments.proofs.segment.segment_words.Tie as tie
 
@@ -26,7 +26,7 @@ part-result-end : tie.Need-slice-bounds-result-end
 part-result-end c = search rules
 
 returns : tie.Need-returns
-returns c = search (rules, part-law)
+returns c = search (rules, part_law)
 
 pub segment-words-spec : {M : Type 1} → statement M
 segment-words-spec =

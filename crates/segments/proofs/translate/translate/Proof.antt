@@ -1,13 +1,13 @@
 -- `translate::translate` meets its contract. Assumes nothing.
 use mathlib.Core.Path.{refl}
 use borrow.Author.Rules.{rules}
-use Rattle.segments.proofs.TranslateLaws.{law-judged, translations}
+use Rattle.segments.proofs.TranslateLaws.{law_judged, translations}
 use Rattle.segments.proofs.translate.translate.Statement.{statement}
 use Rattle.segments.proofs.translate.translate.Tie as tie
-use Rattle.segments.specs.Translation.{descriptor-word}
+use Rattle.segments.specs.Translation.{descriptor_word}
 
 returns : tie.Need-returns
-unfolding descriptor-word
+unfolding descriptor_word
 returns c = search (rules, translations)
 
 add_at : tie.Need-overflow-add-at
@@ -23,8 +23,8 @@ judge-requires : tie.Need-judge-requires
 judge-requires c κs = search (rules, translations)
 
 returns-2 : tie.Need-returns-2
-unfolding descriptor-word
-returns-2 c = law-judged _ _ _ _ (search rules) refl _ c.judge.ensures
+unfolding descriptor_word
+returns-2 c = law_judged _ _ _ _ (search rules) refl _ c.judge.ensures
 
 pub translate-spec : {M : Type 1} → statement M
 translate-spec =

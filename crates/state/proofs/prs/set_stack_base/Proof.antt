@@ -1,6 +1,6 @@
 -- `prs::set_stack_base` meets its contract. Assumes nothing.
 use Rattle.std.proofs.Common.{refl, rules}
-use Rattle.state.proofs.PrLaws.{stack-base-law}
+use Rattle.state.proofs.PrLaws.{stack_base_law}
 use Rattle.state.proofs.prs.set_stack_base.Statement.{statement}
 use Rattle.state.proofs.prs.set_stack_base.Tie as tie
 
@@ -29,7 +29,7 @@ element-write-prs-3 : tie.Need-element-write-prs-3
 element-write-prs-3 c = search rules
 
 returns : tie.Need-returns
-returns c = stack-base-law _ _ _ _ _ c.before.before.size.ensures.1 c.before.before.before.before.requires c.before.stack-place.ensures.0 refl
+returns c = stack_base_law _ _ _ _ _ c.before.before.size.ensures.1 c.before.before.before.before.requires c.before.stack-place.ensures.0 refl
 
 pub set-stack-base-spec : {M : Type 1} → statement M
 set-stack-base-spec =

@@ -1,5 +1,5 @@
 -- `put::bracket_bits` meets its contract. Assumes nothing.
-use Rattle.tables.proofs.PutLaws.{bits-of-row}
+use Rattle.tables.proofs.PutLaws.{bits_of_row}
 use borrow.Author.Rules.{rules}
 use Rattle.tables.proofs.put.bracket_bits.Statement.{statement}
 use Rattle.tables.proofs.put.bracket_bits.Tie as tie
@@ -80,7 +80,7 @@ add-result-5 : tie.Need-overflow-add-result-5
 add-result-5 c = search rules
 
 returns : tie.Need-returns
-returns c = search (rules, bits-of-row)
+returns c = search (rules, bits_of_row)
 
 pub bracket-bits-spec : {M : Type 1} → statement M
 bracket-bits-spec =

@@ -6,7 +6,7 @@ use lib.ListN.{length}
 use Rattle.model.specs.Questions.{all}
 use Rattle.model.specs.Brackets.{row_fits, with_rows}
 use Rattle.tables.specs.View.{as_rows}
-use Rattle.tables.proofs.PutLaws.{put-laws}
+use Rattle.tables.proofs.PutLaws.{put_laws}
 use borrow.Author.Rules.{rules}
 use Rattle.tables.proofs.put.put_rows.Statement.{statement}
 use Rattle.tables.proofs.put.put_rows.Tie as tie
@@ -20,43 +20,43 @@ abbrev decreases-loop : tie.decreases-loop
 decreases-loop memory₀ address segments rows segment₀ memory segment = segments - segment
 
 loop-holds : tie.Need-loop-init invariant-loop decreases-loop
-loop-holds c = search (rules, put-laws)
+loop-holds c = search (rules, put_laws)
 
 cast-place : tie.Need-overflow-cast-place invariant-loop decreases-loop
-cast-place c = search (rules, put-laws)
+cast-place c = search (rules, put_laws)
 
 add-place : tie.Need-overflow-add-place invariant-loop decreases-loop
-add-place c = search (rules, put-laws)
+add-place c = search (rules, put_laws)
 
 mul-by-row : tie.Need-overflow-mul-by-row invariant-loop decreases-loop
-mul-by-row c = search (rules, put-laws)
+mul-by-row c = search (rules, put_laws)
 
 slice-read-by-row : tie.Need-slice-read-by-row invariant-loop decreases-loop
-slice-read-by-row c = search (rules, put-laws)
+slice-read-by-row c = search (rules, put_laws)
 
 by-row-requires : tie.Need-by-row-requires invariant-loop decreases-loop
-by-row-requires c κs = search (rules, put-laws)
+by-row-requires c κs = search (rules, put_laws)
 
 mul-memory : tie.Need-overflow-mul-memory invariant-loop decreases-loop
-mul-memory c = search (rules, put-laws)
+mul-memory c = search (rules, put_laws)
 
 slice-write-memory : tie.Need-slice-write-memory invariant-loop decreases-loop
-slice-write-memory c = search (rules, put-laws)
+slice-write-memory c = search (rules, put_laws)
 
 add-segment : tie.Need-overflow-add-segment invariant-loop decreases-loop
-add-segment c = search (rules, put-laws)
+add-segment c = search (rules, put_laws)
 
 loop-less : tie.Need-loop-smaller invariant-loop decreases-loop
-loop-less c = search (rules, put-laws)
+loop-less c = search (rules, put_laws)
 
 loop-again : tie.Need-loop-preserved invariant-loop decreases-loop
-loop-again c = search (rules, put-laws)
+loop-again c = search (rules, put_laws)
 
 same_length : tie.Need-same-length invariant-loop decreases-loop
-same_length c = search (rules, put-laws)
+same_length c = search (rules, put_laws)
 
 returns : tie.Need-returns invariant-loop decreases-loop
-returns c = search (rules, put-laws)
+returns c = search (rules, put_laws)
 
 pub put-rows-spec : {M : Type 1} → statement M
 put-rows-spec =

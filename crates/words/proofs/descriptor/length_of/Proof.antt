@@ -1,11 +1,11 @@
 -- `descriptor::length_of` meets its contract. Assumes nothing.
 use borrow.Author.Rules.{rules}
-use Rattle.model.specs.Words.{descriptor-in, field}
+use Rattle.model.specs.Words.{descriptor_in, field}
 use Rattle.words.proofs.descriptor.length_of.Statement.{statement}
 use Rattle.words.proofs.descriptor.length_of.Tie as tie
 
 returns : tie.Need-returns
-unfolding descriptor-in field
+unfolding descriptor_in field
 returns c = search rules
 
 pub length-of-spec : {M : Type 1} → statement M

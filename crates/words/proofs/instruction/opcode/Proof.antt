@@ -1,6 +1,6 @@
 -- `instruction::opcode` meets its contract. Assumes nothing.
 use borrow.Author.Rules.{rules}
-use Rattle.model.specs.Words.{instruction-in, field}
+use Rattle.model.specs.Words.{instruction_in, field}
 use Rattle.words.proofs.instruction.opcode.Statement.{statement}
 use Rattle.words.proofs.instruction.opcode.Tie as tie
 
@@ -8,7 +8,7 @@ cast-result : tie.Need-overflow-cast-result
 cast-result c = search rules
 
 returns : tie.Need-returns
-unfolding instruction-in field
+unfolding instruction_in field
 returns c = search rules
 
 pub opcode-spec : {M : Type 1} → statement M

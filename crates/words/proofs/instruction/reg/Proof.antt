@@ -1,11 +1,11 @@
 -- `instruction::reg` meets its contract. Assumes nothing.
 use borrow.Author.Rules.{rules}
-use Rattle.model.specs.Words.{instruction-in, field}
+use Rattle.model.specs.Words.{instruction_in, field}
 use Rattle.words.proofs.instruction.reg.Statement.{statement}
 use Rattle.words.proofs.instruction.reg.Tie as tie
 
 returns : tie.Need-returns
-unfolding instruction-in field
+unfolding instruction_in field
 returns c = search rules
 
 pub reg-spec : {M : Type 1} → statement M

@@ -1,11 +1,11 @@
 -- `pointer::is_indirect` meets its contract. Assumes nothing.
 use borrow.Author.Rules.{rules}
-use Rattle.model.specs.Words.{indirect-in, on, field}
+use Rattle.model.specs.Words.{indirect_in, on, field}
 use Rattle.words.proofs.pointer.is_indirect.Statement.{statement}
 use Rattle.words.proofs.pointer.is_indirect.Tie as tie
 
 returns : tie.Need-returns
-unfolding indirect-in on field
+unfolding indirect_in on field
 returns c = search rules
 
 pub is-indirect-spec : {M : Type 1} → statement M

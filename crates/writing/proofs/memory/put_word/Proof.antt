@@ -1,12 +1,12 @@
 -- `memory::put_word` meets its contract. Assumes nothing.
 use borrow.Author.Rules.{rules}
 use Rattle.model.specs.Listing.{ascii}
-use Rattle.writing.proofs.PutLaws.{zero-word-put, word-put}
+use Rattle.writing.proofs.PutLaws.{zero_word_put, word_put}
 use Rattle.writing.proofs.memory.put_word.Statement.{statement}
 use Rattle.writing.proofs.memory.put_word.Tie as tie
 
 returns : tie.Need-returns
-returns c = search (rules, zero-word-put)
+returns c = search (rules, zero_word_put)
 
 slice-aggregate-put-marked : tie.Need-slice-aggregate-put-marked
 slice-aggregate-put-marked c = search rules
@@ -22,7 +22,7 @@ same_length c = search rules
 
 returns-2 : tie.Need-returns-2
 unfolding ascii
-returns-2 c = search (rules, word-put)
+returns-2 c = search (rules, word_put)
 
 pub put-word-spec : {M : Type 1} → statement M
 put-word-spec =

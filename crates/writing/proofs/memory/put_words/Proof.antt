@@ -3,16 +3,16 @@ use mathlib.Core.Path.{◌≡◌}
 use Prim.Native.Nat.{◌+◌, ◌*◌, ◌-◌, ◌≤◌}
 use lib.ListN.{length}
 use borrow.Author.Rules.{rules}
-use Rattle.model.specs.Write.{word-records}
+use Rattle.model.specs.Write.{word_records}
 use Rattle.text.specs.Text.{placed}
-use Rattle.writing.proofs.WordsLaws.{records-from, words-to-put, words-laws}
+use Rattle.writing.proofs.WordsLaws.{records_from, words_to_put, words_laws}
 use Rattle.writing.proofs.memory.put_words.Statement.{statement}
 use Rattle.writing.proofs.memory.put_words.Tie as tie
 
 abbrev invariant-loop : tie.invariant-loop
 invariant-loop text₀ at memory next₀ k₀ text next k =
-    (k ≤ length memory) × (length text ≡ length text₀) × (next ≤ at + 14 * k) × (placed next (records-from k memory) text ≡ placed at (word-records 0 memory) text₀)
-    × (next + length (records-from k memory) ≡ at + length (word-records 0 memory))
+    (k ≤ length memory) × (length text ≡ length text₀) × (next ≤ at + 14 * k) × (placed next (records_from k memory) text ≡ placed at (word_records 0 memory) text₀)
+    × (next + length (records_from k memory) ≡ at + length (word_records 0 memory))
 
 abbrev decreases-loop : tie.decreases-loop
 decreases-loop text₀ at memory next₀ k₀ text next k = length memory - k
@@ -37,15 +37,15 @@ loop-less c = search rules
 
 loop-again : tie.Need-loop-preserved invariant-loop decreases-loop
 loop-again c =
-    let at-loop = c.before.before.before.before.before.before in
-    let rest = words-to-put _ _ _ _ _ at-loop.loop.invariant.3 _ _ (search rules) (search rules) c.before.before.put_word.ensures in
-    (search rules, search rules, search rules, rest, search (rules, words-laws))
+    let at_loop = c.before.before.before.before.before.before in
+    let rest = words_to_put _ _ _ _ _ at_loop.loop.invariant.3 _ _ (search rules) (search rules) c.before.before.put_word.ensures in
+    (search rules, search rules, search rules, rest, search (rules, words_laws))
 
 same_length : tie.Need-same-length invariant-loop decreases-loop
 same_length c = search rules
 
 returns : tie.Need-returns invariant-loop decreases-loop
-returns c = search (rules, words-laws)
+returns c = search (rules, words_laws)
 
 pub put-words-spec : {M : Type 1} → statement M
 put-words-spec =

@@ -1,6 +1,6 @@
 -- `number::put_marked` meets its contract. Assumes nothing.
 use borrow.Author.Rules.{rules}
-use Rattle.writing.proofs.PutLaws.{marked-put}
+use Rattle.writing.proofs.PutLaws.{marked_put}
 use Rattle.writing.proofs.number.put_marked.Statement.{statement}
 use Rattle.writing.proofs.number.put_marked.Tie as tie
 
@@ -14,7 +14,7 @@ same_length : tie.Need-same-length
 same_length c = search rules
 
 returns : tie.Need-returns
-returns c = search (rules, marked-put)
+returns c = search (rules, marked_put)
 
 pub put-marked-spec : {M : Type 1} → statement M
 put-marked-spec =

@@ -5,7 +5,7 @@ use lib.ListN.{length}
 use borrow.Author.Rules.{rules}
 use Rattle.model.specs.Write.{bytes}
 use Rattle.text.specs.Text.{placed}
-use Rattle.writing.proofs.NumberLaws.{number-laws}
+use Rattle.writing.proofs.NumberLaws.{number_laws}
 use Rattle.writing.proofs.number.put_number.Statement.{statement}
 use Rattle.writing.proofs.number.put_number.Tie as tie
 
@@ -20,7 +20,7 @@ add-i : tie.Need-overflow-add-i invariant-loop decreases-loop
 add-i c = search rules
 
 loop-holds : tie.Need-loop-init invariant-loop decreases-loop
-loop-holds c = search (rules, number-laws)
+loop-holds c = search (rules, number_laws)
 
 sub-i : tie.Need-overflow-sub-i invariant-loop decreases-loop
 sub-i c = search rules
@@ -35,7 +35,7 @@ loop-less : tie.Need-loop-smaller invariant-loop decreases-loop
 loop-less c = search rules
 
 loop-again : tie.Need-loop-preserved invariant-loop decreases-loop
-loop-again c = search (rules, number-laws)
+loop-again c = search (rules, number_laws)
 
 add-result : tie.Need-overflow-add-result invariant-loop decreases-loop
 add-result c = search rules
@@ -44,7 +44,7 @@ same_length : tie.Need-same-length invariant-loop decreases-loop
 same_length c = search rules
 
 returns : tie.Need-returns invariant-loop decreases-loop
-returns c = search (rules, number-laws)
+returns c = search (rules, number_laws)
 
 pub put-number-spec : {M : Type 1} → statement M
 put-number-spec =

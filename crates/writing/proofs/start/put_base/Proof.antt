@@ -1,7 +1,7 @@
 -- `start::put_base` meets its contract. Assumes nothing.
 use borrow.Author.Rules.{rules}
 use Rattle.model.specs.Listing.{ascii}
-use Rattle.writing.proofs.PutLaws.{base-put}
+use Rattle.writing.proofs.PutLaws.{base_put}
 use Rattle.writing.proofs.start.put_base.Statement.{statement}
 use Rattle.writing.proofs.start.put_base.Tie as tie
 
@@ -31,7 +31,7 @@ same_length c = search rules
 
 returns : tie.Need-returns
 unfolding ascii
-returns c = search (rules, base-put)
+returns c = search (rules, base_put)
 
 pub put-base-spec : {M : Type 1} → statement M
 put-base-spec =

@@ -1,6 +1,6 @@
 -- `start::put_pointer` meets its contract. Assumes nothing.
 use borrow.Author.Rules.{rules}
-use Rattle.model.specs.Write.{pointer-bytes}
+use Rattle.model.specs.Write.{pointer_bytes}
 use Rattle.writing.proofs.start.put_pointer.Statement.{statement}
 use Rattle.writing.proofs.start.put_pointer.Tie as tie
 
@@ -11,7 +11,7 @@ same_length : tie.Need-same-length
 same_length c = search rules
 
 returns : tie.Need-returns
-unfolding pointer-bytes
+unfolding pointer_bytes
 returns c = search rules
 
 pub put-pointer-spec : {M : Type 1} → statement M

@@ -3,16 +3,16 @@ use mathlib.Core.Path.{◌≡◌}
 use Prim.Native.Nat.{◌+◌, ◌*◌, ◌-◌, ◌≤◌}
 use lib.ListN.{length}
 use borrow.Author.Rules.{rules}
-use Rattle.model.specs.Write.{pointers-bytes}
-use Rattle.state.specs.View.{as-pointers}
+use Rattle.model.specs.Write.{pointers_bytes}
+use Rattle.state.specs.View.{as_pointers}
 use Rattle.text.specs.Text.{placed}
-use Rattle.writing.proofs.PrsLaws.{prs-from, prs-to-put, prs-laws}
+use Rattle.writing.proofs.PrsLaws.{prs_from, prs_to_put, prs_laws}
 use Rattle.writing.proofs.start.put_prs.Statement.{statement}
 use Rattle.writing.proofs.start.put_prs.Tie as tie
 
 abbrev invariant-loop : tie.invariant-loop
 invariant-loop text₀ at prs next₀ k₀ text next k =
-    (k ≤ 8) × (length text ≡ length text₀) × (next ≡ at + 5 * k) × (placed next (prs-from k prs) text ≡ placed at (pointers-bytes (as-pointers prs)) text₀)
+    (k ≤ 8) × (length text ≡ length text₀) × (next ≡ at + 5 * k) × (placed next (prs_from k prs) text ≡ placed at (pointers_bytes (as_pointers prs)) text₀)
 
 abbrev decreases-loop : tie.decreases-loop
 decreases-loop text₀ at prs next₀ k₀ text next k = 8 - k
@@ -34,15 +34,15 @@ loop-less c = search rules
 
 loop-again : tie.Need-loop-preserved invariant-loop decreases-loop
 loop-again c =
-    let at-loop = c.before.before.before.before.before.before in
-    let rest = prs-to-put _ _ _ _ _ at-loop.loop.invariant.3 _ _ _ (search rules) c.before.before.before.pr.ensures.0 (search rules) c.before.before.put-pointer.ensures in
-    (search rules, search rules, search (rules, prs-laws), rest)
+    let at_loop = c.before.before.before.before.before.before in
+    let rest = prs_to_put _ _ _ _ _ at_loop.loop.invariant.3 _ _ _ (search rules) c.before.before.before.pr.ensures.0 (search rules) c.before.before.put-pointer.ensures in
+    (search rules, search rules, search (rules, prs_laws), rest)
 
 same_length : tie.Need-same-length invariant-loop decreases-loop
 same_length c = search rules
 
 returns : tie.Need-returns invariant-loop decreases-loop
-returns c = search (rules, prs-laws)
+returns c = search (rules, prs_laws)
 
 pub put-prs-spec : {M : Type 1} → statement M
 put-prs-spec =

@@ -1,7 +1,7 @@
 -- `start::put_start` meets its contract. Assumes nothing.
 use borrow.Author.Rules.{rules}
-use Rattle.model.specs.Write.{delivery-bytes}
-use Rattle.writing.proofs.PutLaws.{start-put}
+use Rattle.model.specs.Write.{delivery_bytes}
+use Rattle.writing.proofs.PutLaws.{start_put}
 use Rattle.writing.proofs.start.put_start.Statement.{statement}
 use Rattle.writing.proofs.start.put_start.Tie as tie
 
@@ -33,8 +33,8 @@ same_length : tie.Need-same-length
 same_length c = search rules
 
 returns : tie.Need-returns
-unfolding delivery-bytes
-returns c = search (rules, start-put)
+unfolding delivery_bytes
+returns c = search (rules, start_put)
 
 pub put-start-spec : {M : Type 1} → statement M
 put-start-spec =

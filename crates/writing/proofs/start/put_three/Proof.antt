@@ -1,6 +1,6 @@
 -- `start::put_three` meets its contract. Assumes nothing.
 use borrow.Author.Rules.{rules}
-use Rattle.writing.proofs.PutLaws.{three-put}
+use Rattle.writing.proofs.PutLaws.{three_put}
 use Rattle.writing.proofs.start.put_three.Statement.{statement}
 use Rattle.writing.proofs.start.put_three.Tie as tie
 
@@ -17,7 +17,7 @@ same_length : tie.Need-same-length
 same_length c = search rules
 
 returns : tie.Need-returns
-returns c = search (rules, three-put)
+returns c = search (rules, three_put)
 
 pub put-three-spec : {M : Type 1} → statement M
 put-three-spec =
