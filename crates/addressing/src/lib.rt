@@ -14,14 +14,14 @@ use words::descriptor::Descriptor;
 use words::pointer::Pointer;
 
 // A fault with its pointer, or TPR; and how many pointer words were read.
-#[derive(Drop)]
+#[derive(Clone, Copy)]
 pub enum Address {
     Bad(u8, Pointer, u64),
     Good(Pointer, u64),
 }
 
 // The two segments last used, whose descriptors have passed 11 to 14, the later first; 4,096 is none.
-#[derive(Drop)]
+#[derive(Clone, Copy)]
 struct Kept {
     segment: u64,
     descriptor: Descriptor,
@@ -30,7 +30,7 @@ struct Kept {
 }
 
 // The first no of 11 to 14, or what is kept, with the segment asked for first.
-#[derive(Drop)]
+#[derive(Clone, Copy)]
 enum Found {
     Refused(u8),
     Passed(Kept),

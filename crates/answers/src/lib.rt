@@ -10,7 +10,7 @@ use words::pointer::{Pointer, SegmentNumber, WordNumber};
 // An answer as numbers, and the core after it. Kinds: 0 refused, 1 spent or completed, 2 halted, 3 fault; what a kind leaves
 // free is 0. Numbers that C gets side by side stand apart here: else the compiler loads both at once where they were stored one
 // by one just before, and waits for it.
-#[derive(Drop)]
+#[derive(Clone, Copy)]
 pub struct Answered {
     pub kind: u64,
     pub core: Core,

@@ -44,7 +44,7 @@ fn keep_row(rows: &mut [[u16; 5]], i: usize, row: [u16; 5]) {
     rows[i] = row;
 }
 
-#[derive(Drop)]
+#[derive(Clone, Copy)]
 enum Read {
     Whole,
     CutShort,

@@ -13,7 +13,7 @@ use words::pointer::{Pointer, SegmentNumber, WordNumber};
 
 pub mod line;
 
-#[derive(Drop)]
+#[derive(Clone, Copy)]
 pub enum Verdict {
     // The first no of 1 to 4.
     Refused(u8),
@@ -57,7 +57,7 @@ pub fn ask(registers: Registers, memory: &[u64], ring: u8, segment: u16, word: u
 
 // A verdict as numbers. Kinds: 0 refused, 3 fault, 4 passes; what a kind leaves free is 0.
 #[repr(C)]
-#[derive(Drop)]
+#[derive(Clone, Copy)]
 pub struct Check {
     pub kind: u32,
     pub number: u32,

@@ -14,7 +14,7 @@ use state::reply::Reply;
 use state::{Core, Delivery};
 
 // Where lines end, whether the last of them ends the listing, and the pointer words of the run so far.
-#[derive(Drop)]
+#[derive(Clone, Copy)]
 pub struct Line {
     pub core: Core,
     pub length: usize,
@@ -23,7 +23,7 @@ pub struct Line {
 }
 
 // What a chunk's run answers, its pointer words, and where its steps' lines end.
-#[derive(Drop)]
+#[derive(Clone, Copy)]
 pub struct Chunk {
     pub reply: Reply,
     pub core: Core,
@@ -32,7 +32,7 @@ pub struct Chunk {
 }
 
 // Where a chunk's lines end, with its reply's where that ends the run.
-#[derive(Drop)]
+#[derive(Clone, Copy)]
 pub struct Ending {
     pub length: usize,
     pub is_last: bool,

@@ -19,7 +19,7 @@ use state::{Core, Delivery};
 use words::pointer::Pointer;
 
 // What a step answers, its pointer words, the records after it, and its look-ups with those that found no record.
-#[derive(Drop)]
+#[derive(Clone, Copy)]
 struct Step {
     reply: Reply,
     core: Core,
@@ -30,7 +30,7 @@ struct Step {
 }
 
 // A chunk of one step, and the records after it.
-#[derive(Drop)]
+#[derive(Clone, Copy)]
 struct StepChunk {
     chunk: Chunk,
     records: [Record; 16],
@@ -39,7 +39,7 @@ struct StepChunk {
 }
 
 // Where the lines so far end, the records, and how often they were looked up and no record was found.
-#[derive(Drop)]
+#[derive(Clone, Copy)]
 pub struct Stand {
     pub line: Line,
     pub records: [Record; 16],
@@ -48,7 +48,7 @@ pub struct Stand {
 }
 
 // Lines from the text's start on, after which so many steps are complete.
-#[derive(Drop)]
+#[derive(Clone, Copy)]
 pub struct Listed {
     pub stand: Stand,
     pub count: u32,
@@ -248,7 +248,7 @@ pub fn list(
     }
 }
 
-#[derive(Drop)]
+#[derive(Clone, Copy)]
 struct Held {
     pub end: pending::Pending,
     pub records: [Record; 16],

@@ -5,7 +5,7 @@ use fields::mark::{Mark, mark_of, size_of};
 use fields::number::number_4;
 
 // `size` is 0 where there is no whole record of a known mark, and `word` 8,192 where none below that is written.
-#[derive(Drop)]
+#[derive(Clone, Copy)]
 pub struct FrontRecord {
     pub size: usize,
     pub word: usize,

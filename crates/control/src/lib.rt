@@ -65,7 +65,7 @@ pub fn moved_to(core: Core, code: Descriptor, t: Pointer, x: Translated) -> Afte
 }
 
 // What CALL's check gives: the first no, or the segment's descriptor and the new ring.
-#[derive(Drop)]
+#[derive(Clone, Copy)]
 pub enum Checked {
     Bad(u8),
     Ring(Descriptor, u64),

@@ -12,7 +12,7 @@ use calls::Called;
 use image::load::LoadOutcome;
 use loading::Loading;
 
-#[derive(Drop)]
+#[derive(Clone, Copy)]
 pub enum ConvertOutcome {
     // The first question with a no.
     Refused(u8),
@@ -22,7 +22,7 @@ pub enum ConvertOutcome {
     Ready(usize),
 }
 
-#[derive(Drop)]
+#[derive(Clone, Copy)]
 pub struct Converted {
     pub loading: Loading,
     pub outcome: ConvertOutcome,

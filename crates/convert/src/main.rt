@@ -6,7 +6,7 @@ use conversion::{ConvertOutcome, Converted};
 use loading::Loading;
 use streams::Piece;
 
-#[derive(Drop)]
+#[derive(Clone, Copy)]
 enum Progress {
     // The input goes on.
     Reads,
@@ -19,13 +19,13 @@ enum Progress {
 }
 
 // Of the bytes that the buffer holds those before `kept` are records that were loaded.
-#[derive(Drop)]
+#[derive(Clone, Copy)]
 struct Room {
     kept: usize,
     size: usize,
 }
 
-#[derive(Drop)]
+#[derive(Clone, Copy)]
 struct Turn {
     loading: Loading,
     room: Room,

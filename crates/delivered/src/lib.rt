@@ -19,7 +19,7 @@ use words::pointer::Pointer;
 
 // How a part ends: the run's reply so far, its completed steps, the pointer words of this part's, and of the step at which the run
 // faults; and whether it is the run's last.
-#[derive(Drop)]
+#[derive(Clone, Copy)]
 struct PartEnd {
     core: Core,
     reply: Reply,

@@ -16,7 +16,7 @@ use words::descriptor::Descriptor;
 mod door;
 
 // The place after the lines so far, and how many they are.
-#[derive(Drop)]
+#[derive(Clone, Copy)]
 struct Lines {
     next: usize,
     count: u32,

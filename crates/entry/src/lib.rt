@@ -8,7 +8,7 @@ use state::{Core, Delivery};
 // An answer as numbers. Kinds: 0 refused, 1 spent or completed, 2 halted, 3 fault; what a kind leaves free is 0. Pointer words are
 // those of a run's completed steps, or of a single step however it ends.
 #[repr(C)]
-#[derive(Drop)]
+#[derive(Clone, Copy)]
 pub struct Answer {
     pub kind: u32,
     pub number: u32,
@@ -18,7 +18,7 @@ pub struct Answer {
 }
 
 // An answer, and the record's fields beside its array.
-#[derive(Drop)]
+#[derive(Clone, Copy)]
 struct Answered {
     pub answer: Answer,
     pub a: u64,

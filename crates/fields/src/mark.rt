@@ -5,7 +5,7 @@ ghost use Rattle.fields.specs.Mark.{as_mark, size_of};
 ghost use Rattle.fields.specs.Rules.{rules_of};
 
 // ME, ST, WD and RN; with fewer than two bytes the mark is unknown.
-#[derive(Drop)]
+#[derive(Clone, Copy)]
 pub enum Mark {
     Memory,
     Start,

@@ -12,7 +12,7 @@ use words::descriptor::Descriptor;
 use words::pointer::{Pointer, SegmentNumber, WordNumber};
 
 // The save segment's descriptor, where a fault is delivered.
-#[derive(Drop)]
+#[derive(Clone, Copy)]
 enum Saves {
     No,
     In(Descriptor),

@@ -9,7 +9,7 @@ use state::{Core, Delivery};
 use words::pointer::{SegmentNumber, WordNumber};
 
 #[repr(C)]
-#[derive(Drop)]
+#[derive(Clone, Copy)]
 pub struct Pointer {
     pub ring: u8,
     pub segment: u16,
@@ -17,7 +17,7 @@ pub struct Pointer {
 }
 
 #[repr(C)]
-#[derive(Drop)]
+#[derive(Clone, Copy)]
 pub struct DescriptorBase {
     pub address: u32,
     pub length: u16,
@@ -26,7 +26,7 @@ pub struct DescriptorBase {
 // In C the PRs are eight pointers: PR k has the three numbers from 3k on, and the upper byte of the first is padding there. What
 // faults do stands there as three fields of the record.
 #[repr(C)]
-#[derive(Drop)]
+#[derive(Clone, Copy)]
 pub struct Registers {
     pub a: u64,
     pub dbr: DescriptorBase,

@@ -5,7 +5,7 @@ ghost use Rattle.image.specs.Load.{LoadedAs};
 use crate::words::load_next;
 use loading::{Loading, Outcome, Recorded};
 
-#[derive(Drop)]
+#[derive(Clone, Copy)]
 pub enum LoadOutcome {
     // The first question with a no.
     Refused(u8),
@@ -15,7 +15,7 @@ pub enum LoadOutcome {
     Ready(u32),
 }
 
-#[derive(Drop)]
+#[derive(Clone, Copy)]
 pub struct Loaded {
     pub loading: Loading,
     pub outcome: LoadOutcome,

@@ -82,7 +82,7 @@ fn core_from(a: u64, dbr: DescriptorBase, ipr: Pointer) -> Core
 }
 
 // An answer, and the record's fields beside its array.
-#[derive(Drop)]
+#[derive(Clone, Copy)]
 struct Fields {
     pub answer: Answer,
     pub a: u64,

@@ -9,7 +9,7 @@ use parts::{put_bytes, put_digit, put_pointer, put_short};
 use words::pointer::Pointer;
 
 // A step's number, its last digit, and how many digits stand before that.
-#[derive(Drop)]
+#[derive(Clone, Copy)]
 pub struct Number {
     pub value: u32,
     pub ones: u64,

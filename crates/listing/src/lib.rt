@@ -23,7 +23,7 @@ fn chunk_of(left: u32, room: usize) -> u32
 }
 
 // Lines from the text's start on, after which so many steps are complete.
-#[derive(Drop)]
+#[derive(Clone, Copy)]
 pub struct Listed {
     pub line: Line,
     pub count: u32,

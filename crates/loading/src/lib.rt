@@ -10,7 +10,7 @@ pub mod word;
 // The store is lent beside this: 8,192 words, of which the first `words`, ME's number, are the image's memory, and after them 128
 // words that are the set of the addresses that a WD has had; for an image's needs the set alone. `is_stored`: by the rules of
 // stored images.
-#[derive(Drop)]
+#[derive(Clone, Copy)]
 pub struct Loading {
     pub is_stored: bool,
     pub has_memory: bool,
@@ -19,7 +19,7 @@ pub struct Loading {
     pub registers: Registers,
 }
 
-#[derive(Drop)]
+#[derive(Clone, Copy)]
 pub enum Outcome {
     // The first question with a no.
     Refused(u8),
@@ -31,7 +31,7 @@ pub enum Outcome {
     Ready(u32),
 }
 
-#[derive(Drop)]
+#[derive(Clone, Copy)]
 pub struct Recorded {
     pub loading: Loading,
     pub outcome: Outcome,

@@ -4,7 +4,7 @@ ghost use Rattle.lookup.specs.Lookup.{seen, searched, used, overwritten, without
 
 // A record is valid when its mark is 1, and only then.
 #[repr(C)]
-#[derive(Drop)]
+#[derive(Clone, Copy)]
 pub struct Record {
     pub descriptor: u64,
     pub segment: u16,
@@ -13,7 +13,7 @@ pub struct Record {
 }
 
 // A search for a segment's record. A hit is stale where its count is not 15: only then does a use change counts.
-#[derive(Drop)]
+#[derive(Clone, Copy)]
 pub struct Search {
     pub word: u64,
     pub segment: u16,
@@ -23,7 +23,7 @@ pub struct Search {
 }
 
 // What a miss writes to a record.
-#[derive(Drop)]
+#[derive(Clone, Copy)]
 pub struct Entry {
     pub word: u64,
     pub segment: u16,
@@ -170,7 +170,7 @@ pub fn look_up(records: &mut [Record], segment: u16) -> Search
 }
 
 // Which of the counts 0 to 15 have come, and whether another has.
-#[derive(Drop)]
+#[derive(Clone, Copy)]
 pub struct Tally {
     pub seen: [u8; 16],
     pub high: bool,

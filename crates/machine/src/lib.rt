@@ -65,7 +65,7 @@ pub fn run(
 }
 
 // The number of the first no of 1 to 4, or 0; with 0 the core and its PRs are the record's.
-#[derive(Drop)]
+#[derive(Clone, Copy)]
 pub struct Prepared {
     pub number: u8,
     pub core: Core,

@@ -7,7 +7,7 @@ mod word;
 
 // Number and index of the first word that fails; 0 and 0 where none does.
 #[repr(C)]
-#[derive(Drop)]
+#[derive(Clone, Copy)]
 pub struct Answer {
     pub number: u64,
     pub index: u64,

@@ -14,7 +14,7 @@ const OPCODES: [u64; 5] = [
 ];
 
 // What the table says of an opcode: an operand, ring 0 alone, and how it uses the operand's segment.
-#[derive(Drop)]
+#[derive(Clone, Copy)]
 pub struct Entry {
     pub operand: bool,
     pub privileged: bool,

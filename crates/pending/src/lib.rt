@@ -23,7 +23,7 @@ use words::instruction::opcode;
 use words::pointer::Pointer;
 
 // The use that asks for a descriptor.
-#[derive(Drop)]
+#[derive(Clone, Copy)]
 pub enum Place {
     // the instruction at IPR
     Fetch,
@@ -40,7 +40,7 @@ pub enum Place {
 // What is left of a run: the use that asks, and for which segment; or its reply. `clears`: the step that was just completed makes every
 // record invalid. `word`: the descriptor that was found last. `read`: the pointer words of this step so far. `looks` and `misses`: the
 // look-ups so far, and those that found no record.
-#[derive(Drop)]
+#[derive(Clone, Copy)]
 pub struct Pending {
     pub core: Core,
     pub place: Place,
@@ -57,7 +57,7 @@ pub struct Pending {
 }
 
 // How far a run is: its completed steps, their pointer words, and those of this step.
-#[derive(Drop)]
+#[derive(Clone, Copy)]
 pub struct Far {
     pub count: u32,
     pub total: u64,

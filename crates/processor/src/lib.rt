@@ -13,14 +13,14 @@ use words::descriptor::Descriptor;
 use words::pointer::Pointer;
 
 // A fault with its pointer, or an instruction with TPR and its segment's descriptor; and how many pointer words were read.
-#[derive(Drop)]
+#[derive(Clone, Copy)]
 pub enum Formed {
     Bad(u8, Pointer, u64),
     Ready(u64, Pointer, Descriptor, u64),
 }
 
 // An instruction with TPR, which took no pointer word; `No` says nothing of it.
-#[derive(Drop)]
+#[derive(Clone, Copy)]
 pub enum Prepared {
     No,
     Ready(u64, Pointer),

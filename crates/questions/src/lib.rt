@@ -9,7 +9,7 @@ use words::descriptor::Descriptor;
 use words::pointer::Pointer;
 
 // What a segment is used for.
-#[derive(Drop)]
+#[derive(Clone, Copy)]
 pub enum Use {
     Fetch,
     Read,

@@ -6,7 +6,7 @@ use host::record::Registers;
 use image::load::{LoadOutcome, Loaded};
 
 // What an image gave, if it is whole: its memory is the first `words` of the store; 1 to 4 are yet to be asked.
-#[derive(Drop)]
+#[derive(Clone, Copy)]
 pub struct Image {
     pub is_whole: bool,
     pub words: usize,
@@ -15,7 +15,7 @@ pub struct Image {
 }
 
 // What reading an image gave, and how many bytes have come, modulo 2^64.
-#[derive(Drop)]
+#[derive(Clone, Copy)]
 pub struct Read {
     pub loaded: Loaded,
     pub length: u64,

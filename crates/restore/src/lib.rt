@@ -16,7 +16,7 @@ use words::descriptor::Descriptor;
 use words::pointer::{Pointer, WordNumber};
 
 // How a step ends, and the core then.
-#[derive(Drop)]
+#[derive(Clone, Copy)]
 pub struct Settled {
     pub core: Core,
     pub end: End,

@@ -17,7 +17,7 @@ use words::descriptor::Descriptor;
 use words::pointer::Pointer;
 
 // `total`: the pointer words of the completed steps; `last`: those of the step at which the run faults, else 0.
-#[derive(Drop)]
+#[derive(Clone, Copy)]
 pub struct Ran {
     pub reply: Reply,
     pub core: Core,
@@ -27,7 +27,7 @@ pub struct Ran {
 
 // Where the quick way led: the core after so many completed steps of the run, how it ended there, and the pointer words of the
 // steps that it completed and of the one at which it faults.
-#[derive(Drop)]
+#[derive(Clone, Copy)]
 pub struct Went {
     pub core: Core,
     pub count: u32,

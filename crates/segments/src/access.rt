@@ -11,7 +11,7 @@ use words::descriptor::Descriptor;
 use words::pointer::Pointer;
 
 // The first no, or a word with the descriptor that it was read through.
-#[derive(Drop)]
+#[derive(Clone, Copy)]
 pub enum Accessed {
     Refused(u8),
     Word(Descriptor, u64),

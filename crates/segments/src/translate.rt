@@ -7,14 +7,14 @@ use words::descriptor::Descriptor;
 use words::pointer::Pointer;
 
 // The descriptor segment.
-#[derive(Drop)]
+#[derive(Clone, Copy)]
 pub struct Dbr {
     pub address: u64,
     pub length: u64,
 }
 
 // The number of the first question with a no, or the descriptor that has passed.
-#[derive(Drop)]
+#[derive(Clone, Copy)]
 pub enum Translated {
     Refused(u8),
     Passed(Descriptor),

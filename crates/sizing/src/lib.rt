@@ -10,7 +10,7 @@ use image::load::LoadOutcome;
 
 // The number of the question with a no, or 0 and the five figures.
 #[repr(C)]
-#[derive(Drop)]
+#[derive(Clone, Copy)]
 pub struct Needs {
     pub number: u64,
     pub memory: u64,

@@ -13,7 +13,7 @@ pub mod prs;
 pub mod reply;
 
 // A, DBR and IPR.
-#[derive(Drop)]
+#[derive(Clone, Copy)]
 pub struct Core {
     pub a: u64,
     pub dbr: Dbr,
@@ -22,7 +22,7 @@ pub struct Core {
 
 // The switch, the save segment and the handler segment; no step changes them.
 #[repr(C)]
-#[derive(Drop)]
+#[derive(Clone, Copy)]
 pub struct Delivery {
     pub switch: u16,
     pub save: u16,
@@ -30,7 +30,7 @@ pub struct Delivery {
 }
 
 // How a step ends.
-#[derive(Drop)]
+#[derive(Clone, Copy)]
 pub enum End {
     Completed,
     Halted,
@@ -38,7 +38,7 @@ pub enum End {
 }
 
 // The core after a step, and the descriptor that has passed for IPR's ring to execute: the next fetch compares it.
-#[derive(Drop)]
+#[derive(Clone, Copy)]
 pub struct After {
     pub core: Core,
     pub code: Descriptor,

@@ -2,7 +2,7 @@
 use words::pointer::Pointer;
 
 // The count is that of the completed steps.
-#[derive(Drop)]
+#[derive(Clone, Copy)]
 pub enum Reply {
     Refused(u8),
     Spent(u32),

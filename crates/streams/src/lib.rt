@@ -5,7 +5,7 @@ use libc::{STDIN_FILENO, STDOUT_FILENO};
 use state::reply::Reply;
 
 // What one read gave: the bytes that the buffer holds now, and whether it was the last.
-#[derive(Drop)]
+#[derive(Clone, Copy)]
 pub struct Piece {
     pub size: usize,
     pub has_ended: bool,

@@ -5,11 +5,11 @@ ghost use Rattle.model.specs.Words.{descriptor_in};
 use crate::pointer::WordNumber;
 
 // A word of the descriptor segment.
-#[derive(Drop)]
+#[derive(Clone, Copy)]
 pub struct Descriptor(pub u64);
 
 // The place of a word in memory. Its number is private, so that only `absolute_address` makes one.
-#[derive(Drop)]
+#[derive(Clone, Copy)]
 pub struct AbsoluteAddress(u64);
 
 pub fn address_of(d: Descriptor) -> u64

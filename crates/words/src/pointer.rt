@@ -3,14 +3,14 @@ ghost use Rattle.std.specs.Prelude.{◌≡◌};
 ghost use Rattle.model.specs.Words.{indirect_in, pointer_word};
 ghost use Rattle.words.specs.View.{as_pointer, PointerWithin, DecodedPointer};
 
-#[derive(Drop)]
+#[derive(Clone, Copy)]
 pub struct SegmentNumber(pub u64);
 
-#[derive(Drop)]
+#[derive(Clone, Copy)]
 pub struct WordNumber(pub u64);
 
 // RING, SEGNO and WORDNO, as IPR, a PR and TPR hold them. All are wide, so that a loop carries no padding.
-#[derive(Drop)]
+#[derive(Clone, Copy)]
 pub struct Pointer {
     pub ring: u64,
     pub segment: SegmentNumber,
