@@ -85,14 +85,6 @@ static uint64_t count_of_ones(uint64_t word)
     return count;
 }
 
-/* Where a descriptor's word is looked for, and what is told of words written and of a DBR taken up: a processor that holds
- * descriptors of its own has other words for these before it includes this file. */
-#ifndef DESCRIPTOR_WORD
-#define DESCRIPTOR_WORD(place, segment) (*(place))
-#define WORDS_WRITTEN(r, first, count) ((void)0)
-#define DBR_TAKEN_UP() ((void)0)
-#endif
-
 /* 11 to 14: a segment's descriptor. */
 static inline int find_segment(const kuzhlemor_registers *r, const uint64_t *memory, size_t words, uint16_t segment,
                                uint64_t *descriptor)
@@ -101,7 +93,7 @@ static inline int find_segment(const kuzhlemor_registers *r, const uint64_t *mem
 
     if (segment >= r->dbr.length)
         return 11;
-    d = DESCRIPTOR_WORD(&memory[r->dbr.address + segment], segment);
+    d = memory[r->dbr.address + segment];
     if (!bit(d, 52))
         return 12;
     if (r1(d) > r2(d) || r2(d) > r3(d))
@@ -251,7 +243,6 @@ static int load_dbr(kuzhlemor_registers *r, size_t words, uint64_t word)
 
     if (number != 0)
         return number;
-    DBR_TAKEN_UP();
     r->ipr.word++;
     return COMPLETED;
 }
@@ -281,7 +272,6 @@ COLD static int take_up(kuzhlemor_registers *r, size_t words, uint64_t d, kuzhle
             return 52;
     }
     *r = taken;
-    DBR_TAKEN_UP();
     return COMPLETED;
 }
 
@@ -376,8 +366,6 @@ static int perform(kuzhlemor_registers *r, uint64_t *memory, size_t words, uint6
     default:
         break;
     }
-    if ((opcodes[opcode] & WRITE) != 0)
-        WORDS_WRITTEN(r, address(d) + tpr.word, 1);
     r->ipr.word++;
     return COMPLETED;
 }
@@ -430,7 +418,6 @@ COLD static bool deliver(kuzhlemor_registers *r, uint64_t *memory, size_t words,
     frame[FRAME_IPR] = pointer_word(r->ipr);
     for (int k = 0; k < 8; k++)
         frame[FRAME_PRS + k] = pointer_word(r->prs[k]);
-    WORDS_WRITTEN(r, address(d), FRAME);
     r->ipr = pointer_to(0, r->handler_segment, 0);
     return true;
 }

@@ -94,8 +94,8 @@ fn frame(number: u8, at: Pointer, registers: &Registers) -> [u64; 13] {
 
 /// The machine before a run and after each of its steps, with the pointer words of each.
 pub(crate) struct Course {
-    pub(crate) name: String,
-    pub(crate) machines: Vec<Image>,
+    name: String,
+    machines: Vec<Image>,
     pointer_words: Vec<u64>,
 }
 
@@ -133,12 +133,12 @@ impl Course {
         self.delivers_to(128, fault, pointer_words)
     }
 
-    pub(crate) fn steps(&self) -> usize {
+    fn steps(&self) -> usize {
         self.pointer_words.len()
     }
 
     /// Its steps from one to another, with a budget.
-    pub(crate) fn part(&self, name: String, from: usize, to: usize, budget: usize, end: End) -> Case {
+    fn part(&self, name: String, from: usize, to: usize, budget: usize, end: End) -> Case {
         let steps = (from..to).map(|step| (self.machines[step + 1].registers.ipr, self.pointer_words[step]));
         let machine = Image { budget: budget as u32, ..self.machines[from].clone() };
         let Image { registers, memory, .. } = self.machines[to].clone();

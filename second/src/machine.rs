@@ -75,30 +75,6 @@ struct Performed {
     pointer_words: u32,
 }
 
-/// Where a step finds the descriptor word of a segment: the plain processor in memory, each time. Who keeps words close by
-/// is told what may have made them untrue.
-pub trait Descriptors {
-    /// The descriptor word of a segment for which 11 is answered yes.
-    fn word(&mut self, dbr: &Dbr, memory: &[u64], segno: u16) -> u64;
-
-    /// A step with this DBR has written so many words from this absolute address on.
-    fn written(&mut self, _dbr: &Dbr, _address: usize, _words: usize) {}
-
-    /// LDBR or opcode 42 was completed.
-    fn dbr_loaded(&mut self) {}
-}
-
-/// The descriptor segment itself.
-#[derive(Clone, Copy, Debug, Default)]
-pub struct InMemory;
-
-impl Descriptors for InMemory {
-    #[inline]
-    fn word(&mut self, dbr: &Dbr, memory: &[u64], segno: u16) -> u64 {
-        memory[dbr.address as usize..][..usize::from(dbr.length)][usize::from(segno)]
-    }
-}
-
 /// The most words that memory may have.
 pub const MEMORY_LIMIT: usize = 16_777_216;
 
@@ -259,22 +235,12 @@ fn ask(number: u8, yes: bool, at: &Pointer) -> Result<(), Fault> {
     }
 }
 
-/// The descriptor of the segment of `at`, as it is in memory: 11 to 14.
+/// The descriptor of the segment of `at`: 11 to 14.
 #[inline]
 pub(crate) fn descriptor_of(dbr: &Dbr, memory: &[u64], at: &Pointer) -> Result<Descriptor, Fault> {
-    descriptor_by(&mut InMemory, dbr, memory, at)
-}
-
-/// The descriptor of the segment of `at`: 11 to 14. The word is looked for once 11 has passed, whatever it says.
-#[inline]
-fn descriptor_by(
-    descriptors: &mut impl Descriptors,
-    dbr: &Dbr,
-    memory: &[u64],
-    at: &Pointer,
-) -> Result<Descriptor, Fault> {
     ask(11, has_descriptor(at, dbr), at)?;
-    let segment = Descriptor::from_word(descriptors.word(dbr, memory, at.segno));
+    let descriptor_segment = &memory[dbr.address as usize..][..usize::from(dbr.length)];
+    let segment = Descriptor::from_word(descriptor_segment[usize::from(at.segno)]);
     ask(12, is_valid(&segment), at)?;
     ask(13, rings_are_ordered(&segment), at)?;
     ask(14, segment_is_within_memory(&segment, memory.len()), at)?;
@@ -283,27 +249,16 @@ fn descriptor_by(
 
 /// The descriptor of the segment of which so many words from `at` on are used: 11 to 15.
 #[inline]
-fn use_words(
-    descriptors: &mut impl Descriptors,
-    dbr: &Dbr,
-    memory: &[u64],
-    at: &Pointer,
-    words: usize,
-) -> Result<Descriptor, Fault> {
-    let segment = descriptor_by(descriptors, dbr, memory, at)?;
+fn use_words(dbr: &Dbr, memory: &[u64], at: &Pointer, words: usize) -> Result<Descriptor, Fault> {
+    let segment = descriptor_of(dbr, memory, at)?;
     ask(15, words_exist(at, words, &segment), at)?;
     Ok(segment)
 }
 
 /// The descriptor of the segment that `at` uses: 11 to 15.
 #[inline]
-fn use_segment(
-    descriptors: &mut impl Descriptors,
-    dbr: &Dbr,
-    memory: &[u64],
-    at: &Pointer,
-) -> Result<Descriptor, Fault> {
-    use_words(descriptors, dbr, memory, at, 1)
+fn use_segment(dbr: &Dbr, memory: &[u64], at: &Pointer) -> Result<Descriptor, Fault> {
+    use_words(dbr, memory, at, 1)
 }
 
 /// The words of a segment whose descriptor has passed.
@@ -320,18 +275,8 @@ fn words_of_mut<'m>(segment: &Descriptor, memory: &'m mut [u64]) -> &'m mut [u64
 /// 1. Fetch at IPR: 11 to 15, 21. The questions 32 and 33 of the instruction follow in `decode`.
 #[inline]
 pub fn fetch(registers: &Registers, memory: &[u64]) -> Result<Instruction, Fault> {
-    fetch_by(&mut InMemory, registers, memory)
-}
-
-/// The same by these descriptors.
-#[inline]
-pub fn fetch_by(
-    descriptors: &mut impl Descriptors,
-    registers: &Registers,
-    memory: &[u64],
-) -> Result<Instruction, Fault> {
     let ipr = &registers.ipr;
-    let segment = use_segment(descriptors, &registers.dbr, memory, ipr)?;
+    let segment = use_segment(&registers.dbr, memory, ipr)?;
     ask(21, may_execute(&segment, ipr.ring), ipr)?;
     Ok(Instruction::from_word(words_of(&segment, memory)[usize::from(ipr.wordno)]))
 }
@@ -363,14 +308,13 @@ fn direct(registers: &Registers, instruction: &Instruction) -> Pointer {
 /// 3. Reads the pointer word at TPR, before which so many were read: 31, 11 to 15, 22. Gives the next TPR and I.
 #[inline]
 fn follow(
-    descriptors: &mut impl Descriptors,
     registers: &Registers,
     memory: &[u64],
     tpr: &Pointer,
     pointer_words_read: u32,
 ) -> Result<(Pointer, bool), Fault> {
     ask(31, is_among_the_first(pointer_words_read), tpr)?;
-    let segment = use_segment(descriptors, &registers.dbr, memory, tpr)?;
+    let segment = use_segment(&registers.dbr, memory, tpr)?;
     ask(22, may_read(&segment, tpr.ring), tpr)?;
     let PointerWord { pointer, i } = PointerWord::from_word(words_of(&segment, memory)[usize::from(tpr.wordno)]);
     Ok((Pointer { ring: tpr.ring.max(pointer.ring).max(segment.r1), ..pointer }, i))
@@ -379,22 +323,11 @@ fn follow(
 /// 2. and 3. Form TPR, the address with its effective ring. A pointer word counts once it has been read.
 #[inline]
 pub fn form_address(registers: &Registers, memory: &[u64], instruction: &Instruction) -> Address {
-    form_address_by(&mut InMemory, registers, memory, instruction)
-}
-
-/// The same by these descriptors.
-#[inline]
-pub fn form_address_by(
-    descriptors: &mut impl Descriptors,
-    registers: &Registers,
-    memory: &[u64],
-    instruction: &Instruction,
-) -> Address {
     let mut tpr = direct(registers, instruction);
     let mut i = instruction.i;
     let mut pointer_words = 0;
     while i {
-        match follow(descriptors, registers, memory, &tpr, pointer_words) {
+        match follow(registers, memory, &tpr, pointer_words) {
             Ok(next) => (tpr, i) = next,
             Err(fault) => return Address { tpr: Err(fault), pointer_words },
         }
@@ -404,69 +337,33 @@ pub fn form_address_by(
 }
 
 /// Reads the word at TPR: 11 to 15, 22.
-fn read(
-    descriptors: &mut impl Descriptors,
-    registers: &Registers,
-    memory: &[u64],
-    tpr: &Pointer,
-) -> Result<u64, Fault> {
-    let segment = use_segment(descriptors, &registers.dbr, memory, tpr)?;
+fn read(registers: &Registers, memory: &[u64], tpr: &Pointer) -> Result<u64, Fault> {
+    let segment = use_segment(&registers.dbr, memory, tpr)?;
     ask(22, may_read(&segment, tpr.ring), tpr)?;
     Ok(words_of(&segment, memory)[usize::from(tpr.wordno)])
 }
 
-/// Stores the words from word `wordno` of a segment on.
-#[inline]
-fn store(
-    descriptors: &mut impl Descriptors,
-    dbr: &Dbr,
-    memory: &mut [u64],
-    segment: &Descriptor,
-    wordno: u16,
-    words: &[u64],
-) {
-    let wordno = usize::from(wordno);
-    words_of_mut(segment, memory)[wordno..][..words.len()].copy_from_slice(words);
-    descriptors.written(dbr, segment.address as usize + wordno, words.len());
-}
-
 /// Writes the word at TPR: 11 to 15, 23.
-fn write(
-    descriptors: &mut impl Descriptors,
-    registers: &Registers,
-    memory: &mut [u64],
-    tpr: &Pointer,
-    word: u64,
-) -> Result<(), Fault> {
-    let segment = use_segment(descriptors, &registers.dbr, memory, tpr)?;
+fn write(registers: &Registers, memory: &mut [u64], tpr: &Pointer, word: u64) -> Result<(), Fault> {
+    let segment = use_segment(&registers.dbr, memory, tpr)?;
     ask(23, may_write(&segment, tpr.ring), tpr)?;
-    store(descriptors, &registers.dbr, memory, &segment, tpr.wordno, &[word]);
+    words_of_mut(&segment, memory)[usize::from(tpr.wordno)] = word;
     Ok(())
 }
 
 /// AOS: 11 to 15, 22, then 23; only then is anything stored.
-fn add_one_to_storage(
-    descriptors: &mut impl Descriptors,
-    registers: &Registers,
-    memory: &mut [u64],
-    tpr: &Pointer,
-) -> Result<(), Fault> {
-    let segment = use_segment(descriptors, &registers.dbr, memory, tpr)?;
+fn add_one_to_storage(registers: &Registers, memory: &mut [u64], tpr: &Pointer) -> Result<(), Fault> {
+    let segment = use_segment(&registers.dbr, memory, tpr)?;
     ask(22, may_read(&segment, tpr.ring), tpr)?;
     ask(23, may_write(&segment, tpr.ring), tpr)?;
-    let word = words_of(&segment, memory)[usize::from(tpr.wordno)];
-    store(descriptors, &registers.dbr, memory, &segment, tpr.wordno, &[word.wrapping_add(1)]);
+    let word = &mut words_of_mut(&segment, memory)[usize::from(tpr.wordno)];
+    *word = word.wrapping_add(1);
     Ok(())
 }
 
 /// A transfer that is taken: 11 to 15, 24, 25. It keeps the ring.
-fn transfer(
-    descriptors: &mut impl Descriptors,
-    registers: &mut Registers,
-    memory: &[u64],
-    tpr: &Pointer,
-) -> Result<(), Fault> {
-    let segment = use_segment(descriptors, &registers.dbr, memory, tpr)?;
+fn transfer(registers: &mut Registers, memory: &[u64], tpr: &Pointer) -> Result<(), Fault> {
+    let segment = use_segment(&registers.dbr, memory, tpr)?;
     ask(24, keeps_the_ring(tpr, &registers.ipr), tpr)?;
     ask(25, may_execute(&segment, tpr.ring), tpr)?;
     registers.ipr = *tpr;
@@ -474,13 +371,8 @@ fn transfer(
 }
 
 /// CALL's check gives the new ring: 11 to 15, 26 to 30.
-fn check_call(
-    descriptors: &mut impl Descriptors,
-    registers: &Registers,
-    memory: &[u64],
-    tpr: &Pointer,
-) -> Result<u8, Fault> {
-    let segment = use_segment(descriptors, &registers.dbr, memory, tpr)?;
+fn check_call(registers: &Registers, memory: &[u64], tpr: &Pointer) -> Result<u8, Fault> {
+    let segment = use_segment(&registers.dbr, memory, tpr)?;
     let new_ring = tpr.ring.min(segment.r2);
     ask(26, is_executable(&segment), tpr)?;
     ask(27, enters_at_a_gate(&segment, tpr, &registers.ipr), tpr)?;
@@ -505,13 +397,8 @@ fn move_by_call(registers: &mut Registers, tpr: &Pointer, new_ring: u8) {
 }
 
 /// RETURN: 11 to 15, 25.
-fn return_to(
-    descriptors: &mut impl Descriptors,
-    registers: &mut Registers,
-    memory: &[u64],
-    tpr: &Pointer,
-) -> Result<(), Fault> {
-    let segment = use_segment(descriptors, &registers.dbr, memory, tpr)?;
+fn return_to(registers: &mut Registers, memory: &[u64], tpr: &Pointer) -> Result<(), Fault> {
+    let segment = use_segment(&registers.dbr, memory, tpr)?;
     ask(25, may_execute(&segment, tpr.ring), tpr)?;
     registers.ipr = *tpr;
     for pr in &mut registers.pr {
@@ -521,27 +408,16 @@ fn return_to(
 }
 
 /// LDBR: 11 to 15, 22, 34.
-fn load_dbr(
-    descriptors: &mut impl Descriptors,
-    registers: &mut Registers,
-    memory: &[u64],
-    tpr: &Pointer,
-) -> Result<(), Fault> {
-    let dbr = Dbr::from_word(read(descriptors, registers, memory, tpr)?);
+fn load_dbr(registers: &mut Registers, memory: &[u64], tpr: &Pointer) -> Result<(), Fault> {
+    let dbr = Dbr::from_word(read(registers, memory, tpr)?);
     ask(34, descriptor_segment_is_allowed(dbr, memory.len()), tpr)?;
     registers.dbr = dbr;
-    descriptors.dbr_loaded();
     Ok(())
 }
 
 /// Opcode 42, from a frame at TPR: 11 to 15, 22, 34, 52. The frame's IPR is asked nothing: the next fetch asks.
-fn restore(
-    descriptors: &mut impl Descriptors,
-    registers: &mut Registers,
-    memory: &[u64],
-    tpr: &Pointer,
-) -> Result<(), Fault> {
-    let segment = use_words(descriptors, &registers.dbr, memory, tpr, frame::WORDS)?;
+fn restore(registers: &mut Registers, memory: &[u64], tpr: &Pointer) -> Result<(), Fault> {
+    let segment = use_words(&registers.dbr, memory, tpr, frame::WORDS)?;
     ask(22, may_read(&segment, tpr.ring), tpr)?;
     let mut words = [0; frame::WORDS];
     words.copy_from_slice(&words_of(&segment, memory)[usize::from(tpr.wordno)..][..frame::WORDS]);
@@ -549,26 +425,21 @@ fn restore(
     ask(34, descriptor_segment_is_allowed(restored.dbr, memory.len()), tpr)?;
     ask(52, prs_are_at_or_above_ipr(&restored), tpr)?;
     *registers = restored;
-    descriptors.dbr_loaded();
     Ok(())
 }
 
 /// 1., 32 and 33.
 #[inline]
-fn next_instruction(
-    descriptors: &mut impl Descriptors,
-    registers: &Registers,
-    memory: &[u64],
-) -> Result<(Instruction, Opcode), Fault> {
-    let instruction = fetch_by(descriptors, registers, memory)?;
+fn next_instruction(registers: &Registers, memory: &[u64]) -> Result<(Instruction, Opcode), Fault> {
+    let instruction = fetch(registers, memory)?;
     let opcode = decode(&instruction, &registers.ipr)?;
     Ok((instruction, opcode))
 }
 
 /// The instruction at IPR, when 1 to 4 have passed. A fault leaves registers and memory as they were.
 #[inline]
-fn perform(descriptors: &mut impl Descriptors, registers: &mut Registers, memory: &mut [u64]) -> Performed {
-    let (instruction, opcode) = match next_instruction(descriptors, registers, memory) {
+fn perform(registers: &mut Registers, memory: &mut [u64]) -> Performed {
+    let (instruction, opcode) = match next_instruction(registers, memory) {
         Ok(decoded) => decoded,
         Err(fault) => return Performed { result: Err(fault), pointer_words: 0 },
     };
@@ -586,15 +457,14 @@ fn perform(descriptors: &mut impl Descriptors, registers: &mut Registers, memory
         _ => {}
     }
     // Whatever is asked after the address, its pointer words have been read.
-    let Address { tpr, pointer_words } = form_address_by(descriptors, registers, memory, &instruction);
-    let result = tpr.and_then(|tpr| use_operand(descriptors, registers, memory, &instruction, opcode, &tpr));
+    let Address { tpr, pointer_words } = form_address(registers, memory, &instruction);
+    let result = tpr.and_then(|tpr| use_operand(registers, memory, &instruction, opcode, &tpr));
     Performed { result, pointer_words }
 }
 
 /// 4. Perform, with TPR. Where control moves, IPR isn't advanced.
 #[inline]
 fn use_operand(
-    descriptors: &mut impl Descriptors,
     registers: &mut Registers,
     memory: &mut [u64],
     instruction: &Instruction,
@@ -603,19 +473,19 @@ fn use_operand(
 ) -> Result<Completed, Fault> {
     let reg = usize::from(instruction.reg);
     match opcode {
-        Opcode::Lda => registers.a = read(descriptors, registers, memory, tpr)?,
-        Opcode::Sta => write(descriptors, registers, memory, tpr, registers.a)?,
-        Opcode::Ada => registers.a = registers.a.wrapping_add(read(descriptors, registers, memory, tpr)?),
-        Opcode::Sba => registers.a = registers.a.wrapping_sub(read(descriptors, registers, memory, tpr)?),
-        Opcode::Ana => registers.a &= read(descriptors, registers, memory, tpr)?,
-        Opcode::Ora => registers.a |= read(descriptors, registers, memory, tpr)?,
-        Opcode::Xra => registers.a ^= read(descriptors, registers, memory, tpr)?,
-        Opcode::Cnt => registers.a = u64::from(read(descriptors, registers, memory, tpr)?.count_ones()),
-        Opcode::Aos => add_one_to_storage(descriptors, registers, memory, tpr)?,
+        Opcode::Lda => registers.a = read(registers, memory, tpr)?,
+        Opcode::Sta => write(registers, memory, tpr, registers.a)?,
+        Opcode::Ada => registers.a = registers.a.wrapping_add(read(registers, memory, tpr)?),
+        Opcode::Sba => registers.a = registers.a.wrapping_sub(read(registers, memory, tpr)?),
+        Opcode::Ana => registers.a &= read(registers, memory, tpr)?,
+        Opcode::Ora => registers.a |= read(registers, memory, tpr)?,
+        Opcode::Xra => registers.a ^= read(registers, memory, tpr)?,
+        Opcode::Cnt => registers.a = u64::from(read(registers, memory, tpr)?.count_ones()),
+        Opcode::Aos => add_one_to_storage(registers, memory, tpr)?,
         Opcode::Eap => registers.pr[reg] = *tpr,
         Opcode::Spp => {
             let pointer_word = PointerWord { pointer: registers.pr[reg], i: false };
-            write(descriptors, registers, memory, tpr, pointer_word.to_word())?;
+            write(registers, memory, tpr, pointer_word.to_word())?;
         }
         Opcode::Tra | Opcode::Tze | Opcode::Tmi => {
             let is_taken = match opcode {
@@ -624,22 +494,22 @@ fn use_operand(
                 _ => true,
             };
             if is_taken {
-                transfer(descriptors, registers, memory, tpr)?;
+                transfer(registers, memory, tpr)?;
                 return Ok(Completed::GoOn);
             }
         }
         Opcode::Call => {
-            let new_ring = check_call(descriptors, registers, memory, tpr)?;
+            let new_ring = check_call(registers, memory, tpr)?;
             move_by_call(registers, tpr, new_ring);
             return Ok(Completed::GoOn);
         }
         Opcode::Return => {
-            return_to(descriptors, registers, memory, tpr)?;
+            return_to(registers, memory, tpr)?;
             return Ok(Completed::GoOn);
         }
-        Opcode::Ldbr => load_dbr(descriptors, registers, memory, tpr)?,
+        Opcode::Ldbr => load_dbr(registers, memory, tpr)?,
         Opcode::Rcu => {
-            restore(descriptors, registers, memory, tpr)?;
+            restore(registers, memory, tpr)?;
             return Ok(Completed::GoOn);
         }
         // Performed before, without an operand.
@@ -663,7 +533,7 @@ pub fn may_call(registers: &Registers, memory: &[u64], pointer: &Pointer) -> Che
         return Check::Refused { number };
     }
     let raised = Pointer { ring: pointer.ring.max(registers.ipr.ring), ..*pointer };
-    match check_call(&mut InMemory, registers, memory, &raised) {
+    match check_call(registers, memory, &raised) {
         Ok(ring) => Check::Passes { ring },
         Err(fault) => Check::Fault(fault),
     }
@@ -671,28 +541,23 @@ pub fn may_call(registers: &Registers, memory: &[u64], pointer: &Pointer) -> Che
 
 // ---- Faults that are delivered.
 
-/// The save segment as it is in memory, if a frame can be written there.
-pub(crate) fn save_segment(registers: &Registers, memory: &[u64]) -> Option<Descriptor> {
-    save_segment_by(&mut InMemory, registers, memory)
-}
-
 /// The save segment, if a frame can be written there: 11 to 14, then LENGTH ≥ 13 and W on. No ring is asked.
-fn save_segment_by(descriptors: &mut impl Descriptors, registers: &Registers, memory: &[u64]) -> Option<Descriptor> {
+pub(crate) fn save_segment(registers: &Registers, memory: &[u64]) -> Option<Descriptor> {
     let first = Pointer { segno: registers.save_segment, ..Pointer::default() };
-    let segment = descriptor_by(descriptors, &registers.dbr, memory, &first).ok()?;
+    let segment = descriptor_of(&registers.dbr, memory, &first).ok()?;
     (usize::from(segment.length) >= frame::WORDS && segment.w).then_some(segment)
 }
 
 /// With the switch on and a save segment that will do, the frame is written and IPR becomes the handler's first word.
 /// Else nothing changes. Answers whether it was so.
-fn deliver(descriptors: &mut impl Descriptors, registers: &mut Registers, memory: &mut [u64], fault: &Fault) -> bool {
+fn deliver(registers: &mut Registers, memory: &mut [u64], fault: &Fault) -> bool {
     if registers.fault_switch == 0 {
         return false;
     }
-    let Some(segment) = save_segment_by(descriptors, registers, memory) else {
+    let Some(segment) = save_segment(registers, memory) else {
         return false;
     };
-    store(descriptors, &registers.dbr, memory, &segment, 0, &frame::of_fault(fault, registers));
+    words_of_mut(&segment, memory)[..frame::WORDS].copy_from_slice(&frame::of_fault(fault, registers));
     registers.ipr = Pointer { ring: 0, segno: registers.handler_segment, wordno: 0 };
     true
 }
@@ -700,10 +565,10 @@ fn deliver(descriptors: &mut impl Descriptors, registers: &mut Registers, memory
 /// The instruction at IPR, when 1 to 4 have passed. A fault that is delivered is a completed step, with the pointer words
 /// that were read.
 #[inline]
-fn perform_or_deliver(descriptors: &mut impl Descriptors, registers: &mut Registers, memory: &mut [u64]) -> Performed {
-    let performed = perform(descriptors, registers, memory);
+fn perform_or_deliver(registers: &mut Registers, memory: &mut [u64]) -> Performed {
+    let performed = perform(registers, memory);
     match performed.result {
-        Err(fault) if deliver(descriptors, registers, memory, &fault) => {
+        Err(fault) if deliver(registers, memory, &fault) => {
             Performed { result: Ok(Completed::Delivered(fault)), ..performed }
         }
         _ => performed,
@@ -720,20 +585,10 @@ pub fn step(registers: &mut Registers, memory: &mut [u64]) -> Reply {
 
 /// One step, and the fault that it met, delivered or not.
 pub fn step_and_fault(registers: &mut Registers, memory: &mut [u64]) -> (Reply, Option<Fault>) {
-    match refusal(registers, memory.len()) {
-        Ok(()) => step_by(&mut InMemory, registers, memory),
-        Err(number) => (Reply::Refused { number }, None),
+    if let Err(number) = refusal(registers, memory.len()) {
+        return (Reply::Refused { number }, None);
     }
-}
-
-/// One step by these descriptors, and the fault that it met, when 1 to 4 have passed.
-#[inline]
-pub fn step_by(
-    descriptors: &mut impl Descriptors,
-    registers: &mut Registers,
-    memory: &mut [u64],
-) -> (Reply, Option<Fault>) {
-    let Performed { result, pointer_words } = perform_or_deliver(descriptors, registers, memory);
+    let Performed { result, pointer_words } = perform_or_deliver(registers, memory);
     let pointer_words = u64::from(pointer_words);
     match result {
         Ok(Completed::GoOn) => (Reply::Spent { count: 1, pointer_words }, None),
@@ -746,18 +601,12 @@ pub fn step_by(
 /// Steps until HLT, a fault that isn't delivered, or the budget is spent. The count is the number of completed steps, and
 /// the pointer words are theirs: a faulting step isn't in either, a delivered one is in both.
 pub fn run(registers: &mut Registers, memory: &mut [u64], budget: u32) -> Reply {
-    match refusal(registers, memory.len()) {
-        Ok(()) => run_by(&mut InMemory, registers, memory, budget),
-        Err(number) => Reply::Refused { number },
+    if let Err(number) = refusal(registers, memory.len()) {
+        return Reply::Refused { number };
     }
-}
-
-/// The same by these descriptors, when 1 to 4 have passed.
-#[inline]
-pub fn run_by(descriptors: &mut impl Descriptors, registers: &mut Registers, memory: &mut [u64], budget: u32) -> Reply {
     let mut total: u64 = 0;
     for count in 0..budget {
-        let Performed { result, pointer_words } = perform_or_deliver(descriptors, registers, memory);
+        let Performed { result, pointer_words } = perform_or_deliver(registers, memory);
         let with_this = total + u64::from(pointer_words);
         match result {
             Ok(Completed::GoOn | Completed::Delivered(_)) => total = with_this,

@@ -126,7 +126,7 @@ module _ (ws : List ℕ) (n s : ℕ) (x : Found) (g : found ws n s x) (k : Kept)
   pub right_within : (descriptor_in k.descriptor.0).address + (descriptor_in k.descriptor.0).length ≤ n
   right_within = right_fits n k.descriptor.0 right.passes
 
-pub carried : (t : Pointer) (d : Words.Descriptor) (w n : ℕ) → n ≡ (next_address t d w).ring → tpr_of w n ≡ next_address t d w
+carried : (t : Pointer) (d : Words.Descriptor) (w n : ℕ) → n ≡ (next_address t d w).ring → tpr_of w n ≡ next_address t d w
 unfolding tpr_of next_address with_ring_at_least
 carried t d w n e = ap (λ n. record { ring = n; segment = (pointer_in w).segment; word = (pointer_in w).word }) e
 

@@ -37,7 +37,7 @@ enum Found {
 }
 
 // TPR where a pointer word leads in a ring: its own ring is left out.
-pub fn tpr(word: u64, ring: u64) -> Pointer
+fn tpr(word: u64, ring: u64) -> Pointer
     requires { ring ≤ 7 }
     ensures { (as_pointer result ≡ tpr_of word ring) × PointerWithin result }
 {
@@ -47,7 +47,7 @@ pub fn tpr(word: u64, ring: u64) -> Pointer
 }
 
 // The ring through a pointer word read at `t`: the largest of the three.
-pub fn next_ring(t: Pointer, d: Descriptor, w: u64) -> u64
+fn next_ring(t: Pointer, d: Descriptor, w: u64) -> u64
     requires { t.ring ≤ 7 }
     ensures { (result ≡ (Step.next_address (as_pointer t) (descriptor_in d.0) w).ring) × (result ≤ 7) }
 {

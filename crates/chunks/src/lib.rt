@@ -24,22 +24,22 @@ pub struct Line {
 
 // What a chunk's run answers, its pointer words, and where its steps' lines end.
 #[derive(Clone, Copy)]
-pub struct Chunk {
-    pub reply: Reply,
-    pub core: Core,
-    pub total: u64,
-    pub length: usize,
+struct Chunk {
+    reply: Reply,
+    core: Core,
+    total: u64,
+    length: usize,
 }
 
 // Where a chunk's lines end, with its reply's where that ends the run.
 #[derive(Clone, Copy)]
-pub struct Ending {
-    pub length: usize,
-    pub is_last: bool,
+struct Ending {
+    length: usize,
+    is_last: bool,
 }
 
 // The completed steps that a reply counts.
-pub fn steps_of(reply: Reply) -> u32
+fn steps_of(reply: Reply) -> u32
     ensures { result ≡ completed reply }
 {
     match reply {
@@ -117,7 +117,7 @@ fn put_chunk(
 }
 
 // The last line, where a chunk's reply ends the run, with the total of the whole run.
-pub fn put_ending(text: &mut [u8], at: usize, count: u32, total: u64, reply: Reply) -> Ending
+fn put_ending(text: &mut [u8], at: usize, count: u32, total: u64, reply: Reply) -> Ending
     requires { (at + 64 ≤ length text.old) × ReplyWithin reply × (count + completed reply < 2 ^ 32) }
     ensures { (result.is_last ≡ ends_run reply) × Put 64 at (ending count total reply) text.old text.new result.length }
 {

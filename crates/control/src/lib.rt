@@ -55,7 +55,7 @@ fn move_to(core: Core, code: Descriptor, memory: &[u64], t: Pointer) -> After
 }
 
 // What it does with the look's answer, wherever the descriptor was found.
-pub fn moved_to(core: Core, code: Descriptor, t: Pointer, x: Translated) -> After
+fn moved_to(core: Core, code: Descriptor, t: Pointer, x: Translated) -> After
     ensures { (ps : List Words.Pointer) → DoesAfterLook core code ps (transfer_questions (as_pointer core.ipr) (as_pointer t)) (as_pointer t) x (λ _. finish (Registers.with_ipr (as_pointer t) (registers_with core ps))) result ps }
 {
     match x {
@@ -80,7 +80,7 @@ pub fn check(dbr: Dbr, memory: &[u64], ipr: Pointer, t: Pointer) -> Checked
 }
 
 // What the check makes of the look's answer.
-pub fn ring_by(t: Pointer, x: Translated) -> Checked
+fn ring_by(t: Pointer, x: Translated) -> Checked
     ensures { result ≡ ring_by (as_pointer t) x }
 {
     match x {
@@ -99,7 +99,7 @@ pub fn call(core: Core, code: Descriptor, prs: &mut [u16; 24], memory: &[u64], t
 }
 
 // What CALL does with the check's answer: the move, by its ring.
-pub fn called(core: Core, code: Descriptor, prs: &mut [u16; 24], t: Pointer, x: Checked) -> After
+fn called(core: Core, code: Descriptor, prs: &mut [u16; 24], t: Pointer, x: Checked) -> After
     requires { RingWithin x }
     ensures { DoesInAnyMemory core code (as_pointers prs.old) (ringed_by x (as_pointer t) (λ n. finish (Step.called n (as_pointer t) (as_registers core prs.old)))) (RingRight x) result (as_pointers prs.new) }
 {
@@ -150,13 +150,7 @@ pub fn return_to(
 }
 
 // What RETURN does with the look's answer.
-pub fn returned(
-    core: Core,
-    code: Descriptor,
-    prs: &mut [u16; 24],
-    t: Pointer,
-    x: Translated,
-) -> After
+fn returned(core: Core, code: Descriptor, prs: &mut [u16; 24], t: Pointer, x: Translated) -> After
     requires { t.ring ≤ 7 }
     ensures { DoesAfterLook core code (as_pointers prs.old) (return_questions (as_pointer t)) (as_pointer t) x (λ _. finish (Step.returned (as_pointer t) (as_registers core prs.old))) result (as_pointers prs.new) }
 {

@@ -17,7 +17,7 @@ use Rattle.model.proofs.TableLaws.{Outside, outside_not_decoded}
 use Rattle.words.specs.View.{as_pointer}
 use Rattle.words.specs.declared.descriptor.Descriptor.{Descriptor}
 use Rattle.words.specs.declared.pointer.Pointer as Code
-use Rattle.opcodes.specs.Table.{result, taken}
+use Rattle.opcodes.specs.Table.{operation_result, taken}
 use Rattle.state.specs.View.{as_pointers, pr_of, registers_with, machine_with, ended, Does, DoesWithAnyPrs, Finishes, FinishesWithAnyPrs, faulted_after}
 use Rattle.state.specs.declared.Core.{Core}
 use Rattle.state.specs.declared.After.{After}
@@ -30,7 +30,7 @@ or_true true e = refl
 or_true false e = e
 
 -- HLT completes, and ends the run
-pub halted_does : (c : Core) (d : Descriptor) (ps : List Pointer) (m : List ℕ) (x : After) → Halts c d x → Does c d ps m (halt (advanced (registers_with c ps))) x ps m
+halted_does : (c : Core) (d : Descriptor) (ps : List Pointer) (m : List ℕ) (x : After) → Halts c d x → Does c d ps m (halt (advanced (registers_with c ps))) x ps m
 unfolding ended execute machine advanced with_ipr moved_by
 halted_does c d ps m x h =
     record {
@@ -58,7 +58,7 @@ module _ (n : ℕ) (r : Registers) (i : Instruction) (t : Pointer) (o : Opcode) 
       ∙ ap (λ b. cond b (plainly n o.access i r t) (fail 33 r.ipr)) (ne_eqb _ _ z)
 
 -- the opcode that an arm's number stands for
-pub decodes_as : (i : Instruction) (v k : ℕ) (o : Opcode) → v ≡ i.opcode → v ≡ k → decoded k ≡ some o → decoded i.opcode ≡ some o
+decodes_as : (i : Instruction) (v k : ℕ) (o : Opcode) → v ≡ i.opcode → v ≡ k → decoded k ≡ some o → decoded i.opcode ≡ some o
 decodes_as i v k o e f g = ap decoded (sym e ∙ f) ∙ g
 
 -- THE ARMS, from what each one's function answers
@@ -71,7 +71,7 @@ module _ (c : Core) (d : Descriptor) (ps : List Pointer) (m m_now : List ℕ) (w
   as_entry ps_now o f h k = does_as c d ps m _ x ps_now m_now _ (ap (execute (machine_with c ps m)) (dispatched_as (length m) (registers_with c ps) (instruction_in w) t o f h)) k
 
   module _ (k : ℕ) (f : v ≡ k) where
-    pub load_arm : decoded k ≡ some (unprivileged k (reads (result k))) → DoesWithAnyPrs c d m (λ r. Step.load (result k) r t) x m_now → Does c d ps m program x ps m_now
+    pub load_arm : decoded k ≡ some (unprivileged k (reads (operation_result k))) → DoesWithAnyPrs c d m (λ r. Step.load (operation_result k) r t) x m_now → Does c d ps m program x ps m_now
     unfolding plainly Step.perform
     load_arm g h = as_entry ps _ (decodes_as (instruction_in w) v k _ e f g) refl (h.does ps)
 
@@ -192,32 +192,32 @@ module _ (c : Core) (d : Descriptor) (ps : List Pointer) (m : List ℕ) (w : ℕ
 
 -- THE ENTRIES of the arms that share a law
 module _ where
-  pub lda_entry : decoded 1 ≡ some (unprivileged 1 (reads (result 1)))
-  unfolding result by_computation
+  pub lda_entry : decoded 1 ≡ some (unprivileged 1 (reads (operation_result 1)))
+  unfolding operation_result by_computation
   lda_entry = refl
 
-  pub ada_entry : decoded 3 ≡ some (unprivileged 3 (reads (result 3)))
-  unfolding result by_computation
+  pub ada_entry : decoded 3 ≡ some (unprivileged 3 (reads (operation_result 3)))
+  unfolding operation_result by_computation
   ada_entry = refl
 
-  pub sba_entry : decoded 4 ≡ some (unprivileged 4 (reads (result 4)))
-  unfolding result by_computation
+  pub sba_entry : decoded 4 ≡ some (unprivileged 4 (reads (operation_result 4)))
+  unfolding operation_result by_computation
   sba_entry = refl
 
-  pub ana_entry : decoded 5 ≡ some (unprivileged 5 (reads (result 5)))
-  unfolding result by_computation
+  pub ana_entry : decoded 5 ≡ some (unprivileged 5 (reads (operation_result 5)))
+  unfolding operation_result by_computation
   ana_entry = refl
 
-  pub ora_entry : decoded 6 ≡ some (unprivileged 6 (reads (result 6)))
-  unfolding result by_computation
+  pub ora_entry : decoded 6 ≡ some (unprivileged 6 (reads (operation_result 6)))
+  unfolding operation_result by_computation
   ora_entry = refl
 
-  pub xra_entry : decoded 7 ≡ some (unprivileged 7 (reads (result 7)))
-  unfolding result by_computation
+  pub xra_entry : decoded 7 ≡ some (unprivileged 7 (reads (operation_result 7)))
+  unfolding operation_result by_computation
   xra_entry = refl
 
-  pub cnt_entry : decoded 8 ≡ some (unprivileged 8 (reads (result 8)))
-  unfolding result by_computation
+  pub cnt_entry : decoded 8 ≡ some (unprivileged 8 (reads (operation_result 8)))
+  unfolding operation_result by_computation
   cnt_entry = refl
 
   pub tra_entry : decoded 24 ≡ some (unprivileged 24 (transfers (taken 24)))

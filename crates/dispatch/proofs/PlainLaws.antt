@@ -9,7 +9,7 @@ use Rattle.model.specs.Words.{Descriptor, Pointer, Instruction, instruction_in}
 use Rattle.model.specs.Registers.{Registers, Delivery, Machine, dbr_in}
 use Rattle.model.specs.Opcodes.{Access, sets, reads, writes, updates, transfers, calls, returns, loads_dbr, ends_run, restores, Opcode}
 use Rattle.model.specs.Questions.{Question, dbr_fits, start_questions}
-use Rattle.model.specs.Program.{Program, fail, finish, forget, look, read, Outcome, faults, completes, halts, use_answer, or_fault, execute, unless_fault, ticks}
+use Rattle.model.specs.Program.{Program, fail, finish, look, read, Outcome, faults, completes, halts, use_answer, or_fault, execute, unless_fault, ticks}
 use Rattle.model.specs.Step.{chain, with_operand, load, store, update, transfer, check_call, call, return, if_dbr_fits, load_dbr, restore, perform, obey, step_program, step, pointer_words}
 use Rattle.model.proofs.BranchLaws.{cond_holds}
 use Rattle.model.proofs.WordLaws.{Within}
@@ -54,10 +54,6 @@ module _ (m : Machine) (size : ℕ) where
   unfolding execute ticks
   finishes r = record { outcome = refl; count = refl }
 
-  forgets : (r : Registers) → Alike (forget (finish r)) (forget (finish r))
-  unfolding execute ticks
-  forgets r = record { outcome = refl; count = refl }
-
   fails : (n : ℕ) (t : Pointer) → Alike (fail (suc n) t) (fail (suc n) t)
   unfolding execute ticks stopped
   fails n t = record { outcome = refl; count = refl }
@@ -72,7 +68,7 @@ module _ (m : Machine) (size : ℕ) where
   performs (transfers f) i r t = alike_either (f r.a) (alike_look _ t _ _ (λ d. finishes _)) (finishes _)
   performs calls i r t = alike_look _ t _ _ (λ d. finishes _)
   performs returns i r t = alike_look _ t _ _ (λ d. finishes _)
-  performs loads_dbr i r t = alike_read _ t _ _ (λ d w. alike_either (dbr_fits size (dbr_in w)) (forgets _) (fails 33 t))
+  performs loads_dbr i r t = alike_read _ t _ _ (λ d w. alike_either (dbr_fits size (dbr_in w)) (finishes _) (fails 33 t))
   performs ends_run i r t = record { outcome = refl; count = refl }
   performs restores i r t = record { outcome = refl; count = sym (perform_without_ticks m size restores i r t) }
 

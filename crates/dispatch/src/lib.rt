@@ -11,7 +11,7 @@ use words::descriptor::Descriptor;
 use words::pointer::Pointer;
 
 // HLT.
-pub fn halt(core: Core, code: Descriptor) -> After
+fn halt(core: Core, code: Descriptor) -> After
     ensures { Halts core code result }
 {
     After {

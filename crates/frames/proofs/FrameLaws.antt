@@ -91,7 +91,7 @@ one_word_more a (suc i) (w ∷ ws) m h =
     one_word_more (suc a) i ws (set m a w) (omega arith)
     ∙ ap (λ x. set (with_words (suc a) (take i ws) (set m a w)) x (get_or ws i 0)) (let z : suc a + i ≡ a + suc i = omega arith in z)
 
-pub frame_length : (n : ℕ) (t : Words.Pointer) (c : Core) (prs : List ℕ) → length (frame n t (as_registers c prs)) ≡ 13
+frame_length : (n : ℕ) (t : Words.Pointer) (c : Core) (prs : List ℕ) → length (frame n t (as_registers c prs)) ≡ 13
 unfolding frame as_pointers pointers_in
 frame_length n t c prs = refl
 

@@ -63,7 +63,7 @@ fn frame_word(core: Core, prs: &[u16; 24], number: u8, t: Pointer, i: usize) -> 
 }
 
 // The frame becomes the words of memory from `start` on.
-pub fn write_frame(
+fn write_frame(
     core: Core,
     prs: &[u16; 24],
     memory: &mut [u64],

@@ -110,7 +110,7 @@ unfolding ask
 asked_twice true n x = refl
 asked_twice false n x = refl
 
-pub pointer_adds_nothing : (v : Delivery) (m : Machine) → check_questions v m zero_pointer ≡ start_questions v m
+pointer_adds_nothing : (v : Delivery) (m : Machine) → check_questions v m zero_pointer ≡ start_questions v m
 unfolding check_questions start_questions pointer_in_range ask
 pointer_adds_nothing v m = asked_twice (memory_fits (length m.memory)) 1 _
 

@@ -87,7 +87,7 @@ module _ {W : ℕ → Type 0} (word : (w : ℕ) → w < 2 ^ 64 → W w) where
 
 -- the registers when a fault has been delivered
 module _ {W C : ℕ → Type 0} {size : ℕ} {r : Registers} (f : Fit W C size r) (v : Delivery) (in_range : delivery_in_range v ≡ true) where
-  pub handler_fits : Fit W C size (with_ipr (record { ring = 0; segment = v.handler; word = 0 }) r)
+  handler_fits : Fit W C size (with_ipr (record { ring = 0; segment = v.handler; word = 0 }) r)
   unfolding delivery_in_range
   handler_fits =
       let segments = and_right (leb v.switch 1) (leb v.save 4095 && leb v.handler 4095) in_range in

@@ -195,7 +195,7 @@ frame_holds v n t m e eight =
     take_all ws l = ap (λ n. take n ws) (sym l) ∙ take-length ws
 
 -- THE WORDS OF A PART of a segment, read one by one, are that part
-pub take_drop_more : (xs : List ℕ) (a n : ℕ) → a < length xs → take (suc n) (drop a xs) ≡ get_or xs a 0 ∷ take n (drop (suc a) xs)
+take_drop_more : (xs : List ℕ) (a n : ℕ) → a < length xs → take (suc n) (drop a xs) ≡ get_or xs a 0 ∷ take n (drop (suc a) xs)
 take_drop_more [] a n h = absurd (omega arith)
 take_drop_more (x ∷ xs) zero n h = refl
 take_drop_more (x ∷ xs) (suc a) n h = take_drop_more xs a n (omega arith)

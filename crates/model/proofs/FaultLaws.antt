@@ -11,7 +11,7 @@ use Rattle.model.specs.Words.{Descriptor, Pointer, Instruction, instruction_in}
 use Rattle.model.specs.Registers.{Dbr, Registers, Delivery, Machine, dbr_in, moved_by}
 use Rattle.model.specs.Opcodes.{Access, sets, reads, writes, updates, transfers, calls, returns, loads_dbr, ends_run, restores, Opcode}
 use Rattle.model.specs.Questions.{rings_at_least, dbr_fits, start_questions}
-use Rattle.model.specs.Program.{Program, fail, finish, halt, look, read, tick, forget, write, Outcome, faults, completes, halts, use_answer, or_fault, execute}
+use Rattle.model.specs.Program.{Program, fail, finish, halt, look, read, tick, write, Outcome, faults, completes, halts, use_answer, or_fault, execute}
 use Rattle.model.specs.Step.{chain, with_operand, load, store, update, transfer, check_call, call, return, if_dbr_fits, load_dbr, read_words, take_up, restore, perform, obey, step_program, step}
 use Rattle.model.proofs.BranchLaws.{cond_holds}
 use Rattle.model.proofs.WordLaws.{Within}
@@ -28,7 +28,6 @@ module _ (P : Pointer → Type 0) where
   Points (look q t f) = P t × ((d : Descriptor) → d.r1 ≤ 7 → Points (f d))
   Points (read q t f) = P t × ((d : Descriptor) (w : ℕ) → d.r1 ≤ 7 → Points (f d w))
   Points (tick p) = Points p
-  Points (forget p) = Points p
   Points (write q t v r) = P t
 
   abbrev pub FaultHas : Outcome → Type 0
@@ -49,7 +48,6 @@ module _ (P : Pointer → Type 0) where
   points_law m (look q t f) h = fault_or_rest (use_answer m t q) t _ h.0 (points_law m (f _) (h.1 _ (descriptor_r1_within m t.segment)))
   points_law m (read q t f) h = fault_or_rest (use_answer m t q) t _ h.0 (points_law m (f _ _) (h.1 _ _ (descriptor_r1_within m t.segment)))
   points_law m (tick p) h = points_law m p h
-  points_law m (forget p) h = points_law m p h
   points_law m (write q t v r) h = fault_or_rest (use_answer m t q) t _ h tt
 
 -- the step's pointers are IPR and formed addresses

@@ -5,7 +5,7 @@ use native.Mathlib.Omega.{arith}
 use lib.ListN.{length, get_or, length-set}
 use Rattle.model.specs.Words.{Descriptor, descriptor_in, Pointer}
 use Rattle.model.specs.Registers.{Registers, Machine, machine}
-use Rattle.model.specs.Program.{Program, fail, finish, halt, look, read, tick, forget, write, Outcome, faults, completes, halts, descriptor_of, absolute_address, word_at, use_answer, or_fault, execute}
+use Rattle.model.specs.Program.{Program, fail, finish, halt, look, read, tick, write, Outcome, faults, completes, halts, descriptor_of, absolute_address, word_at, use_answer, or_fault, execute}
 use Rattle.model.proofs.ListLaws.{EachWord, each_word_set}
 use Rattle.model.proofs.WordLaws.{field_within_width}
 use Rattle.model.proofs.ProgramLaws.{answer_passes}
@@ -24,7 +24,6 @@ module _ (W : ℕ → Type 0) (P : Registers → Type 0) where
   Leaves (look q t f) = (d : Descriptor) → d.r1 ≤ 7 → q d ≡ 0 → Leaves (f d)
   Leaves (read q t f) = (d : Descriptor) (w : ℕ) → d.r1 ≤ 7 → W w → q d ≡ 0 → Leaves (f d w)
   Leaves (tick p) = Leaves p
-  Leaves (forget p) = Leaves p
   Leaves (write q t v r) = W v × P r
 
   -- what a completed step left of a memory of that size
@@ -55,7 +54,6 @@ module _ (W : ℕ → Type 0) (P : Registers → Type 0) where
       left_unless_fault (use_answer m t q) t
       (λ e. leaves_law m ws (f _ _) (h _ _ (descriptor_r1_within m t.segment) (ws (absolute_address m t)) (answer_passes m t q e).1))
   leaves_law m ws (tick p) h = leaves_law m ws p h
-  leaves_law m ws (forget p) h = leaves_law m ws p h
   leaves_law m ws (write q t v r) h =
       left_unless_fault (use_answer m t q) t
       (λ e.

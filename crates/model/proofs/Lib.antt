@@ -27,4 +27,3 @@ pub mod TickLaws
 pub mod CountedLaws
 pub mod Computing
 pub mod CasesHold
-pub mod OperandLaws

@@ -12,7 +12,7 @@ use Rattle.model.specs.Words.{Descriptor, Pointer, Instruction}
 use Rattle.model.specs.Registers.{Dbr, Registers, Machine, dbr_in}
 use Rattle.model.specs.Opcodes.{Access, sets, reads, writes, updates, transfers, calls, returns, loads_dbr, ends_run, restores, Opcode}
 use Rattle.model.specs.Questions.{Question, ask, then_ask, rings_at_least, dbr_fits, segment_questions, word_questions, use_questions, fetch_questions, read_questions, part_questions, write_questions, return_questions, transfer_questions, call_questions}
-use Rattle.model.specs.Program.{Program, fail, finish, halt, look, read, tick, forget, write, Outcome, faults, completes, halts, use_answer, or_fault, execute}
+use Rattle.model.specs.Program.{Program, fail, finish, halt, look, read, tick, write, Outcome, faults, completes, halts, use_answer, or_fault, execute}
 use Rattle.model.specs.Step.{chain, with_operand, load, store, update, transfer, check_call, call, return, if_dbr_fits, load_dbr, read_words, take_up, restore, perform, obey, step_program, step}
 use Rattle.model.proofs.BranchLaws.{cond_holds}
 
@@ -89,7 +89,6 @@ module _ (P : ℕ → Type 0) where
   Fails (look q t f) = UpTo30 q × ((d : Descriptor) → Fails (f d))
   Fails (read q t f) = UpTo30 q × ((d : Descriptor) (w : ℕ) → Fails (f d w))
   Fails (tick p) = Fails p
-  Fails (forget p) = Fails p
   Fails (write q t v r) = UpTo30 q
 
   pub fails_law : (m : Machine) (c : ℕ) → 30 < c → (p : Program) → Fails p → fault_number (execute m p) ≡ c → P c
@@ -100,7 +99,6 @@ module _ (P : ℕ → Type 0) where
   fails_law m c above (look q t f) h e = fails_law m c above (f _) (h.1 _) (past_questions c above (use_answer m t q) t _ (answer_up_to_30 m t q h.0) e).1
   fails_law m c above (read q t f) h e = fails_law m c above (f _ _) (h.1 _ _) (past_questions c above (use_answer m t q) t _ (answer_up_to_30 m t q h.0) e).1
   fails_law m c above (tick p) h e = fails_law m c above p h e
-  fails_law m c above (forget p) h e = fails_law m c above p h e
   fails_law m c above (write q t v r) h e =
       absurd (let z : 0 ≡ c = (past_questions c above (use_answer m t q) t _ (answer_up_to_30 m t q h) e).1 in omega arith)
 

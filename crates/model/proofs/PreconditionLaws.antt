@@ -4,7 +4,7 @@ use Prim.Native.Nat.{ℕ, zero, suc}
 use lib.ListN.{set}
 use Rattle.model.specs.Words.{Pointer}
 use Rattle.model.specs.Registers.{Machine, machine}
-use Rattle.model.specs.Program.{Program, fail, finish, halt, look, read, tick, forget, write, Outcome, faults, completes, halts, descriptor_of, absolute_address, word_at, use_answer, or_fault, execute}
+use Rattle.model.specs.Program.{Program, fail, finish, halt, look, read, tick, write, Outcome, faults, completes, halts, descriptor_of, absolute_address, word_at, use_answer, or_fault, execute}
 
 module _ (m : Machine) (P : Machine → Type 0) where
   -- every end that the program comes to, each question on the way having a yes, leaves a machine with P
@@ -15,7 +15,6 @@ module _ (m : Machine) (P : Machine → Type 0) where
   Precondition (look q t f) = use_answer m t q ≡ 0 → Precondition (f (descriptor_of m t.segment))
   Precondition (read q t f) = use_answer m t q ≡ 0 → Precondition (f (descriptor_of m t.segment) (word_at m t))
   Precondition (tick p) = Precondition p
-  Precondition (forget p) = Precondition p
   Precondition (write q t v r) = use_answer m t q ≡ 0 → P (machine r (set m.memory (absolute_address m t) v))
 
   abbrev pub LeftHas : Outcome → Type 0
@@ -36,5 +35,4 @@ module _ (m : Machine) (P : Machine → Type 0) where
   precondition_law (look q t f) h = left_has_unless_fault (use_answer m t q) t _ (λ e. precondition_law (f _) (h e))
   precondition_law (read q t f) h = left_has_unless_fault (use_answer m t q) t _ (λ e. precondition_law (f _ _) (h e))
   precondition_law (tick p) h = precondition_law p h
-  precondition_law (forget p) h = precondition_law p h
   precondition_law (write q t v r) h = left_has_unless_fault (use_answer m t q) t _ h

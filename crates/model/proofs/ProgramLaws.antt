@@ -7,7 +7,7 @@ use borrow.Author.Tests.{lt-ltb}
 use Rattle.model.specs.Words.{Pointer}
 use Rattle.model.specs.Registers.{Machine, machine}
 use Rattle.model.specs.Questions.{ask, then_ask, Question, segment_questions, word_questions, use_questions}
-use Rattle.model.specs.Program.{Program, fail, finish, halt, look, read, tick, forget, write, Outcome, faults, completes, halts, descriptor_of, absolute_address, use_answer, or_fault, execute}
+use Rattle.model.specs.Program.{Program, fail, finish, halt, look, read, tick, write, Outcome, faults, completes, halts, descriptor_of, absolute_address, use_answer, or_fault, execute}
 use Rattle.model.proofs.QuestionLaws.{then_ask_yes, use_passes_segment, word_within_segment, segment_within_memory}
 
 -- 11 to 15 of a use, for short
@@ -62,5 +62,4 @@ execute_keeps_size m (halt r) = refl
 execute_keeps_size m (look q t f) = size_kept_unless_fault _ (use_answer m t q) t _ (execute_keeps_size m (f _))
 execute_keeps_size m (read q t f) = size_kept_unless_fault _ (use_answer m t q) t _ (execute_keeps_size m (f _ _))
 execute_keeps_size m (tick p) = execute_keeps_size m p
-execute_keeps_size m (forget p) = execute_keeps_size m p
 execute_keeps_size m (write q t v r) = size_kept_unless_fault _ (use_answer m t q) t _ (length-set m.memory (absolute_address m t) v)

@@ -24,11 +24,6 @@ use Rattle.model.proofs.FitLaws.{DbrFit, Fit, Formed, moved_within, raised_withi
 use Rattle.model.proofs.ListLaws.{EachWord}
 use Rattle.model.proofs.KeepsLaws.{KeepsFit, table_keeps_fit}
 
--- THE DBR of a word for which 34 has a yes
-pub loaded_dbr_fit : (n w : ℕ) → dbr_fits n (dbr_in w) ≡ true → DbrFit n (dbr_in w)
-unfolding dbr_in
-loaded_dbr_fit n w e = let x = field_within_width 0 24 w in record { address_within = omega arith; fits = e }
-
 -- THE ADDRESS
 module _ {W C : ℕ → Type 0} (word : (v : ℕ) → v < 2 ^ 64 → W v) (eight : C 8) {n : ℕ} {r : Registers} (h : Fit W C n r) where
   pub first_address_formed : (i : Instruction) → Formed r (first_address i r)
@@ -63,6 +58,10 @@ module _ {W C : ℕ → Type 0} (word : (v : ℕ) → v < 2 ^ 64 → W v) (eight
       (λ _. k r.ipr (record { within = h.pointers_fit.ipr_within; ring_at_least = omega arith }))
 
   -- THE ACCESSES
+  loaded_dbr_fit : (w : ℕ) → dbr_fits n (dbr_in w) ≡ true → DbrFit n (dbr_in w)
+  unfolding dbr_in
+  loaded_dbr_fit w e = let x = field_within_width 0 24 w in record { address_within = omega arith; fits = e }
+
   call_fits : (t : Pointer) (d : Descriptor) → Formed r t → new_ring t d ≤ r.ipr.ring → Fit W C n (called (new_ring t d) t r)
   unfolding called stack_base new_ring
   call_fits t d g l =
@@ -98,7 +97,7 @@ module _ {W C : ℕ → Type 0} (word : (v : ℕ) → v < 2 ^ 64 → W v) (eight
   prs_of_frame : (ws : List ℕ) → length ws ≡ 13 → length (map pointer_in (take 8 (drop 5 ws))) ≡ 8
   prs_of_frame ws l = length-map (take 8 (drop 5 ws)) pointer_in ∙ length-take-le 8 (drop 5 ws) (let z = length-drop 5 ws in omega arith)
 
-  pub taken_leaves : (t : Pointer) (ws : List ℕ) → length ws ≡ 13 → EachWord W ws → Leaves W (Fit W C n) (take_up n t (registers_in ws))
+  taken_leaves : (t : Pointer) (ws : List ℕ) → length ws ≡ 13 → EachWord W ws → Leaves W (Fit W C n) (take_up n t (registers_in ws))
   unfolding take_up registers_in if_dbr_fits Leaves
   taken_leaves t ws l e =
       let ipr = pointer_in (get_or ws 4 0) in
@@ -109,7 +108,7 @@ module _ {W C : ℕ → Type 0} (word : (v : ℕ) → v < 2 ^ 64 → W v) (eight
       (λ kept.
       record {
         a_has = e 2;
-        dbr_fit = loaded_dbr_fit n (get_or ws 3 0) fits;
+        dbr_fit = loaded_dbr_fit (get_or ws 3 0) fits;
         pointers_fit =
             record {
               ipr_within = pointer_in_within (get_or ws 4 0);
@@ -119,7 +118,7 @@ module _ {W C : ℕ → Type 0} (word : (v : ℕ) → v < 2 ^ 64 → W v) (eight
             };
       }) (λ _. tt)) (λ _. tt)
 
-  pub perform_leaves : (k : Access) → KeepsFit W C k → (w : ℕ) (t : Pointer) → Formed r t → Leaves W (Fit W C n) (perform n k (instruction_in w) r t)
+  perform_leaves : (k : Access) → KeepsFit W C k → (w : ℕ) (t : Pointer) → Formed r t → Leaves W (Fit W C n) (perform n k (instruction_in w) r t)
   unfolding load store update transfer check_call call return if_dbr_fits load_dbr restore perform Leaves KeepsFit
   perform_leaves (sets f) s w t g = fit_advanced (s n w t r h g)
   perform_leaves (reads f) s w t g = λ d v b e q. fit_advanced (fit_with_a h _ (s r.a v e))
@@ -131,7 +130,7 @@ module _ {W C : ℕ → Type 0} (word : (v : ℕ) → v < 2 ^ 64 → W v) (eight
   perform_leaves returns s w t g = λ d b q. fit_returned h t g.within
   perform_leaves loads_dbr s w t g =
       λ d v b e q.
-      cond_holds (Leaves W (Fit W C n)) (dbr_fits n (dbr_in v)) (λ l. fit_advanced (fit_with_dbr h (dbr_in v) (loaded_dbr_fit n v l))) (λ _. tt)
+      cond_holds (Leaves W (Fit W C n)) (dbr_fits n (dbr_in v)) (λ l. fit_advanced (fit_with_dbr h (dbr_in v) (loaded_dbr_fit v l))) (λ _. tt)
   perform_leaves ends_run s w t g = fit_advanced h
   perform_leaves restores s w t g = λ d b q. words_leave 13 t _ (λ ws l e. taken_leaves t ws l e)
 

@@ -17,8 +17,6 @@ pub data Program : Type 0 where
   read : Question → Pointer → (Descriptor → (word : ℕ) → Program) → Program
   -- a pointer word was read, and the program goes on (02, L2)
   tick : Program → Program
-  -- what is held of descriptors is forgotten, and the program goes on (02, L7)
-  forget : Program → Program
   -- the word at the pointer becomes `value`, and the step is complete
   write : Question → Pointer → (value : ℕ) → Registers → Program
 
@@ -55,7 +53,6 @@ execute m (halt r) = halts (machine r m.memory)
 execute m (look q t f) = or_fault (use_answer m t q) t (execute m (f (descriptor_of m t.segment)))
 execute m (read q t f) = or_fault (use_answer m t q) t (execute m (f (descriptor_of m t.segment) (word_at m t)))
 execute m (tick p) = execute m p
-execute m (forget p) = execute m p
 execute m (write q t v r) = or_fault (use_answer m t q) t (completes (machine r (set m.memory (absolute_address m t) v)))
 
 -- POINTER WORDS, counted once they are read: up to a fault, or all of them
@@ -70,5 +67,4 @@ ticks m (halt r) = 0
 ticks m (look q t f) = unless_fault (use_answer m t q) (ticks m (f (descriptor_of m t.segment)))
 ticks m (read q t f) = unless_fault (use_answer m t q) (ticks m (f (descriptor_of m t.segment) (word_at m t)))
 ticks m (tick p) = suc (ticks m p)
-ticks m (forget p) = ticks m p
 ticks m (write q t v r) = 0

@@ -5,7 +5,7 @@ use Rattle.model.specs.Words.{Descriptor, Pointer, pointer_in, indirect_in, Inst
 use Rattle.model.specs.Registers.{Dbr, Registers, Machine, pr, dbr_in, with_a, with_dbr, with_ipr, with_prs, with_pr, moved_by, with_ring_at_least, advanced}
 use Rattle.model.specs.Opcodes.{Access, sets, reads, writes, updates, transfers, calls, returns, loads_dbr, ends_run, restores, Opcode, decoded}
 use Rattle.model.specs.Questions.{rings_at_least, dbr_fits, fetch_questions, read_questions, part_questions, write_questions, transfer_questions, return_questions, new_ring, call_questions}
-use Rattle.model.specs.Program.{Program, fail, finish, halt, look, read, tick, forget, write, Outcome, execute, ticks}
+use Rattle.model.specs.Program.{Program, fail, finish, halt, look, read, tick, write, Outcome, execute, ticks}
 
 -- 2. THE EFFECTIVE ADDRESS, TPR. P off: IPR's ring and segment. P on: the PR's segment, in the larger of the two rings
 unfoldable pub first_address : Instruction → Registers → Pointer
@@ -66,7 +66,7 @@ unfoldable pub if_dbr_fits : (size : ℕ) → Dbr → Pointer → Program → Pr
 if_dbr_fits n b t p = cond (dbr_fits n b) p (fail 34 t)
 
 unfoldable pub load_dbr : (size : ℕ) → Registers → Pointer → Program
-load_dbr n r t = read (read_questions t) t (λ d w. if_dbr_fits n (dbr_in w) t (forget (finish (advanced (with_dbr (dbr_in w) r)))))
+load_dbr n r t = read (read_questions t) t (λ d w. if_dbr_fits n (dbr_in w) t (finish (advanced (with_dbr (dbr_in w) r))))
 
 -- RCU (02, L4): the words of a frame from TPR on
 unfoldable pub read_words : (count : ℕ) → Pointer → (List ℕ → Program) → Program
@@ -81,7 +81,7 @@ registers_in ws =
 
 -- 52, after 34: has the frame no PR in a lower ring than its IPR's?
 unfoldable pub take_up : (size : ℕ) → Pointer → Registers → Program
-take_up n t r = if_dbr_fits n r.dbr t (cond (rings_at_least r.ipr.ring r.prs) (forget (finish r)) (fail 52 t))
+take_up n t r = if_dbr_fits n r.dbr t (cond (rings_at_least r.ipr.ring r.prs) (finish r) (fail 52 t))
 
 -- 15 and 22 of all thirteen words come before any is read, so that each reading of one passes, and none goes round
 unfoldable pub restore : (size : ℕ) → Pointer → Program

@@ -6,7 +6,7 @@ use Rattle.model.specs.Opcodes.{Opcode, sum, difference, bitwise, count_of_ones,
 use Rattle.model.proofs.BranchLaws.{and_left, and_right}
 use Rattle.model.proofs.Computing.{by_computation}
 use Rattle.model.proofs.TableLaws.{Outside, outside_not_decoded}
-use Rattle.opcodes.specs.Table.{result, taken, of_entry, reads_word, writes_word, moves_control, Told}
+use Rattle.opcodes.specs.Table.{operation_result, taken, of_entry, reads_word, writes_word, moves_control, Told}
 
 -- THE RULE OF A COLUMN over all numbers below n
 same : (a b : Bool) → Bool
@@ -114,32 +114,32 @@ pub ruleset entries = (entry_law, no_entry_law)
 
 -- A READ'S RESULT, for each arm
 module _ (o a w r : ℕ) where
-  pub load_result : o ≡ 1 → w ≡ result o a w
-  unfolding result
+  pub load_result : o ≡ 1 → w ≡ operation_result o a w
+  unfolding operation_result
   load_result h = rw h
 
-  pub add_result : o ≡ 3 → r ≡ sum a w → r ≡ result o a w
-  unfolding result
+  pub add_result : o ≡ 3 → r ≡ sum a w → r ≡ operation_result o a w
+  unfolding operation_result
   add_result h e = e ∙ rw h
 
-  pub subtract_result : o ≡ 4 → r ≡ difference a w → r ≡ result o a w
-  unfolding result
+  pub subtract_result : o ≡ 4 → r ≡ difference a w → r ≡ operation_result o a w
+  unfolding operation_result
   subtract_result h e = e ∙ rw h
 
-  pub and_result : o ≡ 5 → r ≡ bitwise 64 (λ x y. x * y) a w → r ≡ result o a w
-  unfolding result
+  pub and_result : o ≡ 5 → r ≡ bitwise 64 (λ x y. x * y) a w → r ≡ operation_result o a w
+  unfolding operation_result
   and_result h e = e ∙ rw h
 
-  pub or_result : o ≡ 6 → r ≡ bitwise 64 (λ x y. x + y - x * y) a w → r ≡ result o a w
-  unfolding result
+  pub or_result : o ≡ 6 → r ≡ bitwise 64 (λ x y. x + y - x * y) a w → r ≡ operation_result o a w
+  unfolding operation_result
   or_result h e = e ∙ rw h
 
-  pub exclusive_or_result : o ≡ 7 → r ≡ bitwise 64 (λ x y. (x + y) % 2) a w → r ≡ result o a w
-  unfolding result
+  pub exclusive_or_result : o ≡ 7 → r ≡ bitwise 64 (λ x y. (x + y) % 2) a w → r ≡ operation_result o a w
+  unfolding operation_result
   exclusive_or_result h e = e ∙ rw h
 
-  pub count_result : (o ≡ 1 → ⊥) → (o ≡ 3 → ⊥) → (o ≡ 4 → ⊥) → (o ≡ 5 → ⊥) → (o ≡ 6 → ⊥) → (o ≡ 7 → ⊥) → r ≡ count_of_ones 64 w → r ≡ result o a w
-  unfolding result
+  pub count_result : (o ≡ 1 → ⊥) → (o ≡ 3 → ⊥) → (o ≡ 4 → ⊥) → (o ≡ 5 → ⊥) → (o ≡ 6 → ⊥) → (o ≡ 7 → ⊥) → r ≡ count_of_ones 64 w → r ≡ operation_result o a w
+  unfolding operation_result
   count_result h i j k l m e = e ∙ simp (ne_eqb o 1 h, ne_eqb o 3 i, ne_eqb o 4 j, ne_eqb o 5 k, ne_eqb o 6 l, ne_eqb o 7 m)
 
 -- A TRANSFER IS TAKEN, for each arm

@@ -5,8 +5,8 @@ use Rattle.model.specs.Opcodes.{Access, sets, reads, writes, updates, transfers,
 use Rattle.opcodes.specs.declared.table.Entry.{Entry}
 
 -- A after a read, by the opcode's number
-unfoldable pub result : (opcode a word : ℕ) → ℕ
-result o a w =
+unfoldable pub operation_result : (opcode a word : ℕ) → ℕ
+operation_result o a w =
     cond (o == 1) w
     (cond (o == 3) (sum a w)
     (cond (o == 4) (difference a w)

@@ -1,48 +1,48 @@
 // A's operations, modulo 2^64 and bit by bit; what a read makes of A, and when a transfer is taken.
 ghost use Rattle.std.specs.Prelude.{◌≡◌, ◌+◌, ◌-◌, ◌*◌, ◌%◌};
 ghost use Rattle.model.specs.Opcodes.{sum, difference, bitwise, count_of_ones};
-ghost use Rattle.opcodes.specs.Table.{result, taken};
+ghost use Rattle.opcodes.specs.Table.{operation_result, taken};
 
 pub fn add(a: u64, w: u64) -> u64
-    ensures* { λ r. ⌜ r ≡ sum a w ⌝ }
+    ensures { result ≡ sum a w }
 {
     std::num::wrapping_add_u64(a, w)
 }
 
 pub fn subtract(a: u64, w: u64) -> u64
-    ensures* { λ r. ⌜ r ≡ difference a w ⌝ }
+    ensures { result ≡ difference a w }
 {
     std::num::wrapping_sub_u64(a, w)
 }
 
 pub fn and(a: u64, w: u64) -> u64
-    ensures* { λ r. ⌜ r ≡ bitwise 64 (λ x y. x * y) a w ⌝ }
+    ensures { result ≡ bitwise 64 (λ x y. x * y) a w }
 {
     a & w
 }
 
 pub fn or(a: u64, w: u64) -> u64
-    ensures* { λ r. ⌜ r ≡ bitwise 64 (λ x y. x + y - x * y) a w ⌝ }
+    ensures { result ≡ bitwise 64 (λ x y. x + y - x * y) a w }
 {
     a | w
 }
 
 pub fn exclusive_or(a: u64, w: u64) -> u64
-    ensures* { λ r. ⌜ r ≡ bitwise 64 (λ x y. (x + y) % 2) a w ⌝ }
+    ensures { result ≡ bitwise 64 (λ x y. (x + y) % 2) a w }
 {
     a ^ w
 }
 
 // CNT: the language's count of ones is the sum of the bits.
 pub fn count_ones(w: u64) -> u64
-    ensures* { λ r. ⌜ r ≡ count_of_ones 64 w ⌝ }
+    ensures { result ≡ count_of_ones 64 w }
 {
     u64::count_ones(w) as u64
 }
 
 // A after an opcode that reads.
 pub fn result_of(opcode: u8, a: u64, w: u64) -> u64
-    ensures* { λ r. ⌜ r ≡ result opcode a w ⌝ }
+    ensures { result ≡ operation_result opcode a w }
 {
     match opcode {
         1 => w,
@@ -57,7 +57,7 @@ pub fn result_of(opcode: u8, a: u64, w: u64) -> u64
 
 // Is a transfer taken?
 pub fn is_taken(opcode: u8, a: u64) -> bool
-    ensures* { λ r. ⌜ r ≡ taken opcode a ⌝ }
+    ensures { result ≡ taken opcode a }
 {
     match opcode {
         24 => true,

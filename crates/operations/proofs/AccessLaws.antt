@@ -15,7 +15,7 @@ use Rattle.model.specs.Step as Step
 use Rattle.words.specs.View.{as_pointer}
 use Rattle.words.specs.declared.descriptor.Descriptor.{Descriptor}
 use Rattle.words.specs.declared.pointer.Pointer as Code
-use Rattle.opcodes.specs.Table.{result}
+use Rattle.opcodes.specs.Table.{operation_result}
 use Rattle.segments.specs.Translation.{as_dbr, accessed}
 use Rattle.state.specs.View.{registers_with, worded_by, Becomes, DoesWithAnyPrs, DoesAnywhere, Completes, faulted_after}
 use Rattle.state.specs.declared.Core.{Core}
@@ -37,7 +37,7 @@ unfolding dbr_fits
 dbr_fits_law n a l = refl
 
 -- LDA and its like, once the word is read
-pub a_set : (c z : Core) (d : Descriptor) (x : After) (k w u : ℕ) → u ≡ result k c.a w → Becomes c (with_a u) z → Completes z d x → DoesAnywhere c d (sets_a k w) x
+pub a_set : (c z : Core) (d : Descriptor) (x : After) (k w u : ℕ) → u ≡ operation_result k c.a w → Becomes c (with_a u) z → Completes z d x → DoesAnywhere c d (sets_a k w) x
 unfolding sets_a with_a execute machine
 a_set c z d x k w u g h i =
     record {

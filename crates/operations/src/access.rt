@@ -5,7 +5,7 @@ ghost use Rattle.model.specs.Registers as Registers;
 ghost use Rattle.model.specs.Questions as Questions;
 ghost use Rattle.model.specs.Step as Step;
 ghost use Rattle.words.specs.View.{as_pointer};
-ghost use Rattle.opcodes.specs.Table.{result};
+ghost use Rattle.opcodes.specs.Table.{operation_result};
 ghost use Rattle.segments.specs.Translation.{as_dbr};
 ghost use Rattle.state.specs.View.{Ready, DoesWithAnyPrs, DoesAnywhere, DoesAfterRead, DoesAfterWrite};
 ghost use Rattle.operations.specs.Rest.{sets_a, sets_dbr, stores_sum};
@@ -20,7 +20,7 @@ use words::pointer::Pointer;
 // LDA, ADA, SBA, ANA, ORA, XRA, CNT.
 pub fn load(core: Core, code: Descriptor, memory: &[u64], opcode: u8, t: Pointer) -> After
     requires { Ready core memory.now }
-    ensures* { λ x. ⌜ DoesWithAnyPrs core code memory.now (λ r. Step.load (result opcode) r (as_pointer t)) x memory.now ⌝ }
+    ensures { DoesWithAnyPrs core code memory.now (λ r. Step.load (operation_result opcode) r (as_pointer t)) result memory.now }
 {
     let dbr = core.dbr;
     loaded(
@@ -33,8 +33,8 @@ pub fn load(core: Core, code: Descriptor, memory: &[u64], opcode: u8, t: Pointer
 }
 
 // What they do with the read's answer, wherever the descriptor was found.
-pub fn loaded(core: Core, code: Descriptor, opcode: u8, t: Pointer, x: Accessed) -> After
-    ensures* { λ y. ⌜ DoesAfterRead core code (as_pointer t) x (λ r _ w. sets_a opcode w r) y ⌝ }
+fn loaded(core: Core, code: Descriptor, opcode: u8, t: Pointer, x: Accessed) -> After
+    ensures { DoesAfterRead core code (as_pointer t) x (λ r _ w. sets_a opcode w r) result }
 {
     match x {
         Accessed::Refused(n) => state::faulted(core, code, n, t),
@@ -44,7 +44,7 @@ pub fn loaded(core: Core, code: Descriptor, opcode: u8, t: Pointer, x: Accessed)
 
 // A becomes the opcode's result of A and the word.
 fn with_result(core: Core, code: Descriptor, opcode: u8, w: u64) -> After
-    ensures* { λ x. ⌜ DoesAnywhere core code (sets_a opcode w) x ⌝ }
+    ensures { DoesAnywhere core code (sets_a opcode w) result }
 {
     let a = opcodes::arithmetic::result_of(opcode, core.a, w);
     state::completed(state::with_a(core, a), code)
@@ -53,7 +53,7 @@ fn with_result(core: Core, code: Descriptor, opcode: u8, w: u64) -> After
 // STA and SPP.
 pub fn store(core: Core, code: Descriptor, memory: &mut [u64], t: Pointer, value: u64) -> After
     requires { Ready core memory.old }
-    ensures* { λ x. ⌜ DoesWithAnyPrs core code memory.old (λ r. Step.store value r (as_pointer t)) x memory.new ⌝ }
+    ensures { DoesWithAnyPrs core code memory.old (λ r. Step.store value r (as_pointer t)) result memory.new }
 {
     let dbr = core.dbr;
     stored(
@@ -65,8 +65,8 @@ pub fn store(core: Core, code: Descriptor, memory: &mut [u64], t: Pointer, value
 }
 
 // What they do with the write's answer.
-pub fn stored(core: Core, code: Descriptor, t: Pointer, n: u8) -> After
-    ensures* { λ x. ⌜ DoesAfterWrite core code t n x ⌝ }
+fn stored(core: Core, code: Descriptor, t: Pointer, n: u8) -> After
+    ensures { DoesAfterWrite core code t n result }
 {
     if n != 0 {
         return state::faulted(core, code, n, t);
@@ -77,7 +77,7 @@ pub fn stored(core: Core, code: Descriptor, t: Pointer, n: u8) -> After
 // AOS: 22, then 23, before it stores.
 pub fn update(core: Core, code: Descriptor, memory: &mut [u64], t: Pointer) -> After
     requires { Ready core memory.old }
-    ensures* { λ x. ⌜ DoesWithAnyPrs core code memory.old (λ r. Step.update (λ w. sum w 1) r (as_pointer t)) x memory.new ⌝ }
+    ensures { DoesWithAnyPrs core code memory.old (λ r. Step.update (λ w. sum w 1) r (as_pointer t)) result memory.new }
 {
     let dbr = core.dbr;
     let x = segments::access::read(Use::Read, dbr, memory, t);
@@ -87,7 +87,7 @@ pub fn update(core: Core, code: Descriptor, memory: &mut [u64], t: Pointer) -> A
 // What it does with the read's answer.
 fn updated(core: Core, code: Descriptor, memory: &mut [u64], t: Pointer, x: Accessed) -> After
     requires { Ready core memory.old }
-    ensures* { λ y. ⌜ DoesWithAnyPrs core code memory.old (stores_sum x (as_pointer t)) y memory.new ⌝ }
+    ensures { DoesWithAnyPrs core code memory.old (stores_sum x (as_pointer t)) result memory.new }
 {
     match x {
         Accessed::Refused(n) => state::faulted(core, code, n, t),
@@ -97,7 +97,7 @@ fn updated(core: Core, code: Descriptor, memory: &mut [u64], t: Pointer, x: Acce
 
 // The DBR in LDBR's word.
 pub fn dbr_in(w: u64) -> Dbr
-    ensures* { λ d. ⌜ (as_dbr d ≡ Registers.dbr_in w) × (d.address < 16777216) × (d.length < 8192) ⌝ }
+    ensures { (as_dbr result ≡ Registers.dbr_in w) × (result.address < 16777216) × (result.length < 8192) }
 {
     Dbr {
         address: w % 16777216,
@@ -108,7 +108,7 @@ pub fn dbr_in(w: u64) -> Dbr
 // 34: within 4,096 words and within memory?
 pub fn is_dbr(dbr: Dbr, words: usize) -> bool
     requires { (dbr.address < 16777216) × (dbr.length < 8192) }
-    ensures* { λ r. ⌜ r ≡ Questions.dbr_fits words (as_dbr dbr) ⌝ }
+    ensures { result ≡ Questions.dbr_fits words (as_dbr dbr) }
 {
     (dbr.length <= 4096) & (dbr.address as usize + dbr.length as usize <= words)
 }
@@ -116,7 +116,7 @@ pub fn is_dbr(dbr: Dbr, words: usize) -> bool
 // LDBR: 34 after 22.
 pub fn load_dbr(core: Core, code: Descriptor, memory: &[u64], t: Pointer) -> After
     requires { Ready core memory.now }
-    ensures* { λ x. ⌜ DoesWithAnyPrs core code memory.now (λ r. Step.load_dbr (length memory.now) r (as_pointer t)) x memory.now ⌝ }
+    ensures { DoesWithAnyPrs core code memory.now (λ r. Step.load_dbr (length memory.now) r (as_pointer t)) result memory.now }
 {
     let dbr = core.dbr;
     dbr_loaded(
@@ -129,8 +129,8 @@ pub fn load_dbr(core: Core, code: Descriptor, memory: &[u64], t: Pointer) -> Aft
 }
 
 // What it does with the read's answer, in a memory of so many words.
-pub fn dbr_loaded(core: Core, code: Descriptor, words: usize, t: Pointer, x: Accessed) -> After
-    ensures* { λ y. ⌜ DoesAfterRead core code (as_pointer t) x (λ r _ w. sets_dbr words w (as_pointer t) r) y ⌝ }
+fn dbr_loaded(core: Core, code: Descriptor, words: usize, t: Pointer, x: Accessed) -> After
+    ensures { DoesAfterRead core code (as_pointer t) x (λ r _ w. sets_dbr words w (as_pointer t) r) result }
 {
     match x {
         Accessed::Refused(n) => state::faulted(core, code, n, t),
@@ -140,7 +140,7 @@ pub fn dbr_loaded(core: Core, code: Descriptor, words: usize, t: Pointer, x: Acc
 
 // DBR becomes the word's, 34 asked first.
 fn take_dbr(core: Core, code: Descriptor, words: usize, t: Pointer, w: u64) -> After
-    ensures* { λ x. ⌜ DoesAnywhere core code (sets_dbr words w (as_pointer t)) x ⌝ }
+    ensures { DoesAnywhere core code (sets_dbr words w (as_pointer t)) result }
 {
     let next = dbr_in(w);
     if !is_dbr(next, words) {

@@ -8,14 +8,14 @@ use lib.ListN.{length, get_or}
 use borrow.Author.Tests.{not-true, not-false}
 use Rattle.model.specs.Words.{Pointer, descriptor_in, Instruction, instruction_in}
 use Rattle.model.specs.Registers.{Registers, Machine}
-use Rattle.model.specs.Opcodes.{Access, sets, reads, writes, updates, transfers, calls, returns, loads_dbr, ends_run, restores, Opcode, decoded}
+use Rattle.model.specs.Opcodes.{Opcode, decoded}
 use Rattle.model.specs.Questions.{ask, fetch_questions}
 use Rattle.model.specs.Program.{Program, fail, execute, faults, ticks}
 use Rattle.model.specs.Step.{first_address, chain, with_operand, pointer_words}
 use Rattle.model.proofs.BranchLaws.{cond_holds, and_left, and_right}
+use Rattle.model.proofs.Computing.{by_computation}
 use Rattle.model.proofs.QuestionLaws.{ask_yes}
-use Rattle.model.proofs.OperandLaws.{chain_off, Ignores, IgnoresOperand, each_ignores, performs_anywhere}
-use Rattle.model.proofs.TableLaws.{IfThere, decoded_has}
+use Rattle.model.proofs.TableLaws.{Each, IfThere, decoded_has}
 use Rattle.words.specs.View.{as_pointer, PointerWithin}
 use Rattle.words.specs.declared.descriptor.Descriptor.{Descriptor}
 use Rattle.words.specs.declared.pointer.Pointer as Code
@@ -35,24 +35,45 @@ use Rattle.dispatch.specs.Dispatch.{dispatched, dispatched_in}
 use Rattle.dispatch.proofs.PlainLaws.{plain_counts, plainly_without_ticks}
 use Rattle.processor.specs.Step.{obeyed_in, OperandFormed, ReadyToPerform}
 
+-- AN OPCODE WITHOUT AN OPERAND does the same at any pointer
+abbrev Ignores : Opcode → Type 0
+Ignores o = o.operand ≡ false → (n : ℕ) (i : Instruction) (r : Registers) (t u : Pointer) → plainly n o.access i r t ≡ plainly n o.access i r u
+
 impossible : {A : Type 0} → true ≡ false → A
 impossible e = absurd (subst T e tt)
 
--- AN OPCODE WITHOUT AN OPERAND does the same at any pointer
-plainly_anywhere : (n : ℕ) (k : Access) (i : Instruction) (r : Registers) (t u : Pointer) → Ignores k → plainly n k i r t ≡ plainly n k i r u
-unfolding Ignores plainly
-plainly_anywhere n (sets f) i r t u h = performs_anywhere n (sets f) i r t u h
-plainly_anywhere n ends_run i r t u h = performs_anywhere n ends_run i r t u h
-plainly_anywhere n (reads f) i r t u h = absurd h
-plainly_anywhere n (writes f) i r t u h = absurd h
-plainly_anywhere n (updates f) i r t u h = absurd h
-plainly_anywhere n (transfers f) i r t u h = absurd h
-plainly_anywhere n calls i r t u h = absurd h
-plainly_anywhere n returns i r t u h = absurd h
-plainly_anywhere n loads_dbr i r t u h = absurd h
-plainly_anywhere n restores i r t u h = absurd h
+each_ignores : Each Ignores
+unfolding plainly by_computation
+each_ignores =
+    record {
+      lda = λ e n i r t u. impossible e;
+      sta = λ e n i r t u. impossible e;
+      ada = λ e n i r t u. impossible e;
+      sba = λ e n i r t u. impossible e;
+      ana = λ e n i r t u. impossible e;
+      ora = λ e n i r t u. impossible e;
+      xra = λ e n i r t u. impossible e;
+      cnt = λ e n i r t u. impossible e;
+      aos = λ e n i r t u. impossible e;
+      ldi = λ e n i r t u. refl;
+      eap = λ e n i r t u. impossible e;
+      spp = λ e n i r t u. impossible e;
+      tra = λ e n i r t u. impossible e;
+      tze = λ e n i r t u. impossible e;
+      tmi = λ e n i r t u. impossible e;
+      call = λ e n i r t u. impossible e;
+      return = λ e n i r t u. impossible e;
+      ldbr = λ e n i r t u. impossible e;
+      hlt = λ e n i r t u. refl;
+      rcu = λ e n i r t u. impossible e;
+    }
 
 -- THE OPERAND of an entry: no pointer word is asked for
+chain_off : (n : ℕ) (t : Pointer) (f : Pointer → Program) → chain n false t f ≡ f t
+unfolding chain
+chain_off zero t f = refl
+chain_off (suc n) t f = refl
+
 straight : (n : ℕ) (r : Registers) (i : Instruction) (t : Pointer) (o : Opcode) → o.operand ≡ true → i.i ≡ false → t ≡ first_address i r →
     with_operand o i r (plainly n o.access i r) ≡ plainly n o.access i r t
 unfolding with_operand
@@ -63,12 +84,12 @@ straight n r i t o e f g =
     ∙ chain_off 64 (first_address i r) act
     ∙ ap act (sym g)
 
-nowhere : (n : ℕ) (r : Registers) (i : Instruction) (t : Pointer) (o : Opcode) → IgnoresOperand o → o.operand ≡ false →
+nowhere : (n : ℕ) (r : Registers) (i : Instruction) (t : Pointer) (o : Opcode) → Ignores o → o.operand ≡ false →
     with_operand o i r (plainly n o.access i r) ≡ plainly n o.access i r t
 unfolding with_operand
-nowhere n r i t o h e = rw e (plainly_anywhere n o.access i r r.ipr t (h e))
+nowhere n r i t o h e = rw e (h e n i r r.ipr t)
 
-operand_direct : (n : ℕ) (r : Registers) (i : Instruction) (t : Pointer) (o : Opcode) → IgnoresOperand o → o.operand && i.i ≡ false → t ≡ first_address i r →
+operand_direct : (n : ℕ) (r : Registers) (i : Instruction) (t : Pointer) (o : Opcode) → Ignores o → o.operand && i.i ≡ false → t ≡ first_address i r →
     with_operand o i r (plainly n o.access i r) ≡ plainly n o.access i r t
 operand_direct n r i t o h e f = by_operand o.operand refl
   where
@@ -76,7 +97,7 @@ operand_direct n r i t o h e f = by_operand o.operand refl
     by_operand true g = straight n r i t o g (rw g at e) f
     by_operand false g = nowhere n r i t o h g
 
-direct : (n : ℕ) (r : Registers) (i : Instruction) (t : Pointer) (d : Option Opcode) → IfThere IgnoresOperand d → of_entry (λ o. o.operand) d && i.i ≡ false → t ≡ first_address i r →
+direct : (n : ℕ) (r : Registers) (i : Instruction) (t : Pointer) (d : Option Opcode) → IfThere Ignores d → of_entry (λ o. o.operand) d && i.i ≡ false → t ≡ first_address i r →
     obey_plainly n r i d ≡ dispatched n r i d t
 unfolding of_entry obey_plainly dispatched
 direct n r i t none h e f = refl
@@ -151,7 +172,7 @@ module _ (m : Machine) (w v : ℕ) (q : v ≡ (instruction_in w).opcode) (b j : 
     where
       same : obeyed_in m w ≡ dispatched_in m w t
       same =
-          direct _ m.registers (instruction_in w) t (decoded (instruction_in w).opcode) (decoded_has IgnoresOperand (instruction_in w).opcode each_ignores)
+          direct _ m.registers (instruction_in w) t (decoded (instruction_in w).opcode) (decoded_has Ignores (instruction_in w).opcode each_ignores)
           (rw (← e, ← f) (not-true (b && j) y)) g
 
   module _ (y : not (b && j) ≡ false) (p : Bool) (h₀ : p ≡ of_entry (λ o. o.privileged) (decoded v)) where

@@ -148,7 +148,7 @@ executed_52 k m size t r e f = rw (e, f)
 
 executed : (k : Registers) (m : List ℕ) (size : ℕ) (t : Pointer) (r : Registers) → dbr_fits size r.dbr ≡ true → rings_at_least r.ipr.ring r.prs ≡ true →
     execute (machine k m) (Step.take_up size t r) ≡ execute (machine k m) (finish r)
-unfolding Step.take_up Step.if_dbr_fits execute
+unfolding Step.take_up Step.if_dbr_fits
 executed k m size t r e f = rw (e, f)
 
 -- HOW A PROGRAM ENDS: a fault, or registers and no write

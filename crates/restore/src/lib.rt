@@ -108,13 +108,7 @@ pub fn restore(core: Core, prs: &mut [u16; 24], memory: &[u64], t: Pointer) -> S
 }
 
 // What it does with the look's answer, wherever the descriptor was found.
-pub fn restored(
-    core: Core,
-    prs: &mut [u16; 24],
-    memory: &[u64],
-    t: Pointer,
-    x: Translated,
-) -> Settled
+fn restored(core: Core, prs: &mut [u16; 24], memory: &[u64], t: Pointer, x: Translated) -> Settled
     requires { SegmentFits x (length memory.now) × SegmentHolds x (t.word.0 + 12) }
     ensures { EndsAs core (as_pointers prs.old) memory.now (passed_by x (as_pointer t) (λ d. Step.take_up (length memory.now) (as_pointer t) (Step.registers_in (take 13 (drop (d.address + t.word.0) memory.now))))) result (as_pointers prs.new) memory.now }
 {

@@ -9,7 +9,7 @@ use borrow.Author.Tests.{eqb-true, eqb-false, eq-eqb, le-leb}
 use Rattle.model.specs.Words.{Descriptor, Pointer}
 use Rattle.model.specs.Registers.{Dbr, Machine, machine}
 use Rattle.model.specs.Questions.{Question}
-use Rattle.model.specs.Program.{Program, fail, finish, halt, look, read, tick, forget, write, descriptor_of, absolute_address, word_at, execute, ticks}
+use Rattle.model.specs.Program.{Program, fail, finish, halt, look, read, tick, write, descriptor_of, absolute_address, word_at, execute, ticks}
 use Rattle.model.specs.Reach.{SameDescriptors, segment_passes, observable_through, writable_through}
 use Rattle.model.proofs.BranchLaws.{and_both}
 use Rattle.model.proofs.QuestionLaws.{use_passes_segment}
@@ -31,7 +31,6 @@ High n b (halt r) = ⊥
 High n b (look q t f) = (d : Descriptor) → q d ≡ 0 → High n b (f d)
 High n b (read q t f) = MayRead n q × ((d : Descriptor) (w : ℕ) → q d ≡ 0 → High n b (f d w))
 High n b (tick p) = High n b p
-High n b (forget p) = High n b p
 High n b (write q t w r) = MayWrite n q × (b ≡ r.dbr)
 
 module _ {n : ℕ} {v : View} {m k : Machine} (i : Indistinct n v m k) where
@@ -102,7 +101,6 @@ module _ {n : ℕ} {v : View} {m k : Machine} (i : Indistinct n v m k) where
       rw (← (same_descriptor_used t z.0), ← (same_word t z.0 y.0 y.1))
       (secret (f (descriptor_of m t.segment) (word_at m t)) (h.1 _ _ z.1)))
   secret (tick p) h = secret p h
-  secret (forget p) h = secret p h
   secret (write q t w r) h =
       or_fault_related t (same_use_answer indistinct_descriptors t q)
       (λ e.
@@ -137,5 +135,4 @@ module _ {n : ℕ} {v : View} {m k : Machine} (i : Indistinct n v m k) where
       rw (← (same_descriptor_used t z.0), ← (same_word t z.0 y.0 y.1))
       (same_ticks (f (descriptor_of m t.segment) (word_at m t)) (h.1 _ _ z.1)))
   same_ticks (tick p) h = ap suc (same_ticks p h)
-  same_ticks (forget p) h = same_ticks p h
   same_ticks (write q t w r) h = refl

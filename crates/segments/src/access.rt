@@ -18,7 +18,7 @@ pub enum Accessed {
 }
 
 // The questions of the use by the instruction at `ipr`, once 11 to 15 are answered.
-pub fn ask(by: Use, x: Translated, ipr: Pointer, t: Pointer) -> Translated
+fn ask(by: Use, x: Translated, ipr: Pointer, t: Pointer) -> Translated
     ensures { result ≡ asked_of (questions_of by (as_pointer ipr) (as_pointer t)) x }
 {
     match x {
@@ -42,7 +42,7 @@ pub fn look(by: Use, dbr: Dbr, memory: &[u64], ipr: Pointer, t: Pointer) -> Tran
 }
 
 // The word there, once the use is answered.
-pub fn word_by(x: Translated, memory: &[u64], t: Pointer) -> Accessed
+fn word_by(x: Translated, memory: &[u64], t: Pointer) -> Accessed
     requires { SegmentFits x (length memory.now) × SegmentHolds x t.word.0 }
     ensures { result ≡ word_by memory.now t.word.0 x }
 {
@@ -61,7 +61,7 @@ pub fn read(by: Use, dbr: Dbr, memory: &[u64], t: Pointer) -> Accessed
 }
 
 // That word becomes `value`, once the use is answered. 0 is a yes to all.
-pub fn write_by(x: Translated, memory: &mut [u64], t: Pointer, value: u64) -> u8
+fn write_by(x: Translated, memory: &mut [u64], t: Pointer, value: u64) -> u8
     requires { SegmentFits x (length memory.old) × SegmentHolds x t.word.0 }
     ensures { (result ≡ answer_of x) × (memory.new ≡ written_by memory.old t.word.0 value x) }
 {

@@ -42,7 +42,7 @@ pub fn descriptor_answer(d: Descriptor, words: usize) -> u8
 }
 
 // 12 to 15 of a descriptor, wherever it was found.
-pub fn judge(d: Descriptor, words: usize, p: Pointer) -> Translated
+fn judge(d: Descriptor, words: usize, p: Pointer) -> Translated
     ensures { result ≡ passed_unless (word_answer words d.0 p.word.0) d }
 {
     let n = descriptor_answer(d, words);

@@ -14,7 +14,7 @@ use state::{Core, Delivery, End};
 use words::pointer::{Pointer, SegmentNumber, WordNumber};
 
 // Where a delivered fault leads: ring 0, handler segment, word 0.
-pub fn handled(delivery: Delivery, core: Core) -> Core
+fn handled(delivery: Delivery, core: Core) -> Core
     ensures { Becomes core (Registers.with_ipr (record { ring = 0; segment = delivery.handler; word = 0 })) result }
 {
     let p = Pointer {

@@ -2,7 +2,6 @@
 
 use crate::compare::Machine;
 use crate::random::Random;
-use second::machine::{fetch_by, step_by, Descriptors, InMemory};
 use second::opcodes::RCU;
 use second::{frame, Dbr, Descriptor, Fault, Instruction, Opcode, Pointer, PointerWord, Registers, Reply};
 
@@ -166,17 +165,6 @@ impl Generator {
 
     /// Draws the code of a machine while it runs, up to `budget` steps, and sets its budget.
     pub fn code(&mut self, random: &mut Random, machine: &mut Machine, budget: u32) {
-        self.code_by(InMemory, random, machine, budget);
-    }
-
-    /// The same by these descriptors, so that code is drawn where they lead.
-    pub fn code_by<D: Descriptors + Clone>(
-        &mut self,
-        mut descriptors: D,
-        random: &mut Random,
-        machine: &mut Machine,
-        budget: u32,
-    ) {
         machine.budget = budget;
         if second::machine::refusal(&machine.registers, machine.memory.len()).is_err() {
             return;
@@ -189,8 +177,8 @@ impl Generator {
         let mut since_new = 0;
         for count in 0..budget {
             // Code that is there already, or a fetch that faults, which may be delivered.
-            let Some((address, is_last_word)) = self.undecided(&descriptors, &registers) else {
-                let (reply, fault) = step_by(&mut descriptors, &mut registers, &mut self.current);
+            let Some((address, is_last_word)) = self.undecided(&registers) else {
+                let (reply, fault) = second::step_and_fault(&mut registers, &mut self.current);
                 if !matches!(reply, Reply::Spent { .. }) {
                     break;
                 }
@@ -217,14 +205,13 @@ impl Generator {
                 if instruction.opcode == RCU && registers.ipr.ring == 0 {
                     self.plant(random, machine, &registers, &instruction);
                 }
-                let before = (registers, descriptors.clone());
-                // A fault that isn't delivered leaves registers and memory as they were.
+                let before = registers;
+                // A fault that isn't delivered leaves everything as it was.
                 registers.fault_switch = 0;
-                is_done = self.completes(&mut descriptors, &mut registers);
-                registers.fault_switch = before.0.fault_switch;
+                is_done = matches!(second::step(&mut registers, &mut self.current), Reply::Spent { .. });
+                registers.fault_switch = before.fault_switch;
                 if !is_done && !halts && (is_kept_anyway || may_fault) {
-                    descriptors = before.1;
-                    is_done = self.completes(&mut descriptors, &mut registers);
+                    is_done = matches!(second::step(&mut registers, &mut self.current), Reply::Spent { .. });
                     break;
                 }
                 if is_kept_anyway || halts {
@@ -232,11 +219,13 @@ impl Generator {
                 }
                 // What wrote nothing is taken back if it leads nowhere.
                 let wrote = matches!(instruction.opcode, 2 | 9 | 17);
-                if is_done && (wrote || fetch_by(&mut descriptors.clone(), &registers, &self.current).is_ok()) {
+                if is_done && !wrote && second::machine::fetch(&registers, &self.current).is_err() {
+                    registers = before;
+                    is_done = false;
+                }
+                if is_done {
                     break;
                 }
-                (registers, descriptors) = before;
-                is_done = false;
             }
             if !is_done {
                 // The handler would go through the same again and again.
@@ -248,17 +237,10 @@ impl Generator {
         }
     }
 
-    /// Takes a step. Answers whether the run goes on after it.
-    fn completes(&mut self, descriptors: &mut impl Descriptors, registers: &mut Registers) -> bool {
-        let (reply, _) = step_by(descriptors, registers, &mut self.current);
-        matches!(reply, Reply::Spent { .. })
-    }
-
     /// The address of IPR's word, if it can be fetched and wasn't drawn yet, and whether it is its segment's last.
-    fn undecided<D: Descriptors + Clone>(&self, descriptors: &D, registers: &Registers) -> Option<(usize, bool)> {
-        let mut descriptors = descriptors.clone();
-        fetch_by(&mut descriptors, registers, &self.current).ok()?;
-        let word = descriptors.word(&registers.dbr, &self.current, registers.ipr.segno);
+    fn undecided(&self, registers: &Registers) -> Option<(usize, bool)> {
+        second::machine::fetch(registers, &self.current).ok()?;
+        let word = self.current[registers.dbr.address as usize + usize::from(registers.ipr.segno)];
         let code = Descriptor::from_word(word);
         let address = code.address as usize + usize::from(registers.ipr.wordno);
         (!self.decided[address]).then_some((address, registers.ipr.wordno + 1 >= code.length))

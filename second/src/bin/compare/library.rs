@@ -1,8 +1,5 @@
 //! The C library, called as its header says.
 
-#[cfg(close)]
-pub mod close;
-
 use crate::random::Random;
 use second::doors::{self, Change, State};
 use second::{Check, Dbr, Direction, Fault, Needs, OldAnswer, Pointer, Registers, Reply, Row};

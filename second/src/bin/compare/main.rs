@@ -3,8 +3,6 @@
 //! compares nothing: it prints N images of the same kind, each after its length in four bytes, for other tests.
 
 mod checks;
-#[cfg(close)]
-mod close;
 mod compare;
 mod describe;
 mod directed;
@@ -49,9 +47,6 @@ struct Plan {
     large: u64,
     tables: u64,
     segments: u64,
-    /// Machines with descriptors close by.
-    #[cfg_attr(not(close), allow(dead_code))]
-    close: u64,
     depth: usize,
 }
 
@@ -72,7 +67,6 @@ fn main() -> ExitCode {
             large: 400,
             tables: 1_000_000,
             segments: 2_000_000,
-            close: 300_000,
             depth: 4,
         },
         (Some("draw"), 2 | 3) => match number(1) {
@@ -94,7 +88,6 @@ fn main() -> ExitCode {
                 large: 2_000,
                 tables: many,
                 segments: many,
-                close: many,
                 depth: 5,
             },
             _ => {
@@ -207,8 +200,6 @@ fn carry_out(plan: &Plan) -> Result<(), String> {
 
     drawn_segments(plan, &mut comparer, &mut clock)?;
 
-    let close = close_by(plan, &mut generator, &mut clock)?;
-
     programs(plan, &mut generator, &mut clock)?;
 
     let mut random = Random::new(plan.seed.rotate_left(16));
@@ -234,16 +225,14 @@ fn carry_out(plan: &Plan) -> Result<(), String> {
         &secrecy.by_ring[1..]
     ));
 
-    let mut missed = comparer.reach.print();
-    missed.extend(close.missed());
+    let missed = comparer.reach.print();
     if !missed.is_empty() {
         return Err(format!("compare: none different, but never reached: {}", missed.join(", ")));
     }
     let Comparer { images, checks, tables, segments, .. } = comparer;
     let machines = comparer.machines + 2 * secrecy.pairs;
     println!(
-        "compare: {machines} machines, {images} images, {checks} checks, {tables} tables, {segments} segments, {close}, none \
-         different"
+        "compare: {machines} machines, {images} images, {checks} checks, {tables} tables, {segments} segments, none different"
     );
     Ok(())
 }
@@ -379,64 +368,6 @@ fn drawn_segments(plan: &Plan, comparer: &mut Comparer, clock: &mut Clock) -> Re
     Ok(())
 }
 
-/// What was compared of the machines with descriptors close by.
-struct CloseBy {
-    #[cfg(close)]
-    comparer: close::CloseComparer,
-}
-
-impl CloseBy {
-    /// Prints the tables; answers what was never reached.
-    #[cfg(close)]
-    fn missed(&self) -> Vec<String> {
-        self.comparer.print()
-    }
-
-    #[cfg(not(close))]
-    fn missed(&self) -> Vec<String> {
-        Vec::new()
-    }
-}
-
-impl std::fmt::Display for CloseBy {
-    #[cfg(close)]
-    fn fmt(&self, f: &mut std::fmt::Formatter) -> std::fmt::Result {
-        write!(f, "{} machines with descriptors close by", self.comparer.machines)
-    }
-
-    #[cfg(not(close))]
-    fn fmt(&self, f: &mut std::fmt::Formatter) -> std::fmt::Result {
-        write!(f, "descriptors close by left out")
-    }
-}
-
-#[cfg(close)]
-fn close_by(plan: &Plan, generator: &mut Generator, clock: &mut Clock) -> Result<CloseBy, String> {
-    let mut comparer = close::CloseComparer::new();
-    let count = close::directed(&mut comparer).map_err(|failure| close_differs(plan, *failure))?;
-    clock.part(&format!("directed: {count} machines with descriptors close by, with all that 02 gives"));
-    let mut random = Random::new(plan.seed.rotate_left(36));
-    let mut drawn = close::CloseMachine::default();
-    for count in 0..plan.close {
-        let mut random = Random::new(random.next());
-        close::draw(&mut random, generator, &mut drawn);
-        if let Err(difference) = comparer.machine(&drawn) {
-            return Err(close_differs(plan, (format!("machine {count} with records"), drawn, difference)));
-        }
-    }
-    clock.part(&format!(
-        "random: {} machines with descriptors close by; {} in all by the plain processor too",
-        plan.close, comparer.plain
-    ));
-    Ok(CloseBy { comparer })
-}
-
-#[cfg(not(close))]
-fn close_by(_: &Plan, _: &mut Generator, _: &mut Clock) -> Result<CloseBy, String> {
-    println!("descriptors close by: left out, for there is no archive KUZHLEMOR_CLOSE_LIB");
-    Ok(CloseBy {})
-}
-
 /// The laptop's programs that the environment names.
 fn programs(plan: &Plan, generator: &mut Generator, clock: &mut Clock) -> Result<(), String> {
     type Compare = fn(&OsStr, &mut Random, &mut Generator) -> Result<usize, program::Failure>;
@@ -480,15 +411,6 @@ fn machine_differs(plan: &Plan, (name, machine, first): directed::Failure) -> St
     let difference = comparer.machine(&smaller).err().unwrap_or(first);
     let text = format!("compare: DIFFERENT, in {name}\n{}\n{}", difference.0, describe::describe(&smaller));
     write_out(&format!("failing-{}", plan.seed), &[("", describe::image(&smaller))], text)
-}
-
-#[cfg(close)]
-fn close_differs(plan: &Plan, (name, machine, first): close::Failure) -> String {
-    let mut comparer = close::CloseComparer::new();
-    let smaller = close::shrink(machine, &mut |machine| comparer.machine(machine).is_err());
-    let difference = comparer.machine(&smaller).err().unwrap_or(first);
-    let text = format!("compare: DIFFERENT, in {name}\n{}\n{}", difference.0, close::describe(&smaller));
-    write_out(&format!("failing-{}", plan.seed), &[("-close", describe::image(&smaller.machine))], text)
 }
 
 fn program_differs(plan: &Plan, program: &str, (name, input, difference): program::Failure) -> String {
