@@ -65,48 +65,79 @@ def plain(name):
 
 class Function:
     def __init__(self, entry):
-        self.entry = entry
         self.needs = entry["needs"]
-        self.at = dict(zip([n for _, n in self.needs], [a for _, a in entry["asked_at"]]))
-        self.steps = {}
-        for _, _, (old, new), _, _ in entry["places"]:
-            self.steps.setdefault(plain(old), []).append(new)
+        self.at = dict(zip([n for _, n in self.needs], [a[0] for a in entry["asked_at"]]))
+        self.places = {place[0]: (place[1], place[2]) for place in entry["places"]}
+        self.steps = [tuple(place[2]) for place in entry["places"]]
 
     def goal(self, old):
-        for o, n in self.needs:
-            if o == old or plain(o) == plain(old):
-                return n
-        for o, n in self.needs:
-            if plain(n) == plain(old):
-                return n
+        """Today's name of a goal."""
+        for same in (lambda o, n: o == old, lambda o, n: plain(o) == plain(old), lambda o, n: plain(n) == plain(old)):
+            for o, n in self.needs:
+                if same(o, n):
+                    return n
         return None
 
-    def step(self, old):
-        new = self.steps.get(plain(old))
-        return new[0] if new else None
+    def step(self, goal, old):
+        """Today's name of a step before a goal: the nearest that had the older name."""
+        place = self.at.get(goal)
+        while place is not None and place in self.places:
+            place, (was, now) = self.places[place]
+            if was == old or plain(was) == plain(old):
+                return now
+        for was, now in self.steps:
+            if plain(was) == plain(old):
+                return now
+        return None
 
 
-def paths_turned(text, function, missing):
+# what stands in every context
+GIVEN = ("args", "requires", "ranges", "type_inv", "utf8", "fits", "well_formed")
+
+
+def paths_turned(text, goal, function, missing):
     def path(match):
-        step, rest = match[1], match[2] or ""
-        if step in ("args", "requires", "ranges", "type_inv", "fits", "utf8"):
+        step, rest = match[2], match[3] or ""
+        if step in GIVEN:
             return "c." + step + rest
-        new = function.step(step)
+        new = function.step(goal, step)
         if new is None:
-            missing.add(step)
+            if match[1]:
+                missing.add(step)
             new = step
-        rest = re.sub(r"^\.given\.1", ".is", rest)
-        return "c." + new + rest
+        return "c." + new + re.sub(r"^\.given\.1", ".is", rest)
 
-    text = re.sub(rf"(?<![^\s(,;\[])c(?:\.before)+\.({NAME})((?:\.{NAME})*)", path, text)
+    return re.sub(rf"(?<![^\s(,;\[])c((?:\.before)*)\.({NAME})((?:\.{NAME})*)", path, text)
 
-    def near(match):
-        step = match[1]
-        if step in ("args", "requires", "ranges", "type_inv", "utf8", "before"):
-            return match[0]
-        return path(match)
 
-    return re.sub(rf"(?<![^\s(,;\[])c\.({NAME})((?:\.{NAME})*)", near, text) if False else text
+def loop_turned(body, entry, folder):
+    """An invariant or a measure over today's record of variables."""
+    match = re.match(rf"abbrev (?:pub )?(invariant|decreases)-({NAME}) :[^\n]*\n((?:unfolding[^\n]*\n)?)\1-\2((?: {NAME})*) =", body)
+    if not match:
+        print(f"{folder}: by hand: {body[:60]!r}")
+        return body
+    kind, old, args, rest = match[1], match[2], match[4].split(), body[match.end():]
+    new, variables = None, []
+    for (was, now), names in entry["loops"]:
+        if plain(was) == plain(old):
+            new, variables = now, names
+    if new is None:
+        print(f"{folder}: no loop {old}")
+        return body
+    if len(entry["loops"]) and len(args) < len(variables):
+        print(f"{folder}: {old}: {args} for {variables}")
+    head, tail = args[: len(variables)], args[len(variables):]
+    spelled = {}
+    for arg, variable in zip(head, variables):
+        spelled[arg] = f"l.initial.{variable}" if arg.endswith("₀") else f"l.{variable}"
+    changed = [v for a, v in zip(head, variables) if a.endswith("₀")]
+    if len(changed) != len(tail):
+        changed = [v for v in variables if v in tail]
+    for arg, variable in zip(tail, changed):
+        spelled[arg] = f"l.{variable}"
+    spelled.pop("_", None)
+    rest = re.sub(rf"(?<![^\s(,;\[])({NAME})(?=[\s.,;)\]}}]|$)", lambda m: spelled.get(m[1], m[1]), rest)
+    return f"abbrev pub {kind}-{new} : goal.{kind}-{new}\n{match[3]}{kind}-{new} l ={rest}"
 
 
 def turn(crate, folder, entry):
@@ -143,7 +174,7 @@ def turn(crate, folder, entry):
             helpers.append((comment, body))
     made = []
     for comment, new, rest in answers:
-        made.append((comment + paths_turned(rest, function, missing)).rstrip())
+        made.append((comment + paths_turned(rest, new, function, missing)).rstrip())
     kept = [u for u in uses if not re.match(rf"use {re.escape(module)}\.(Statement|Tie|Goals)", u)]
     out = head + kept + [f"use {module}.Goals as goal", ""]
     shared = [(c + b).rstrip() for c, b in helpers if b.strip()]
@@ -152,11 +183,9 @@ def turn(crate, folder, entry):
     with open(os.path.join(folder, "Answers.antt"), "w", encoding="utf-8") as file:
         file.write(result)
     if invariants:
-        loops = [n for n in entry.get("loops", [])]
         with open(os.path.join(folder, "Invariants.antt"), "w", encoding="utf-8") as file:
-            file.write("\n".join(kept + [f"use {module}.Given as goal", ""]) + "\n\n".join(comment + body for comment, _, _, body in invariants) + "\n")
-        print(f"{folder}: invariants {[n for _, n, _, _ in invariants]} for loops {loops}")
-    os.rename(path, os.path.join(folder, "Proof.old"))
+            file.write("\n".join(kept + [f"use {module}.Given as goal", ""]) + "\n\n".join(comment + loop_turned(body, entry, folder) for comment, _, _, body in invariants) + "\n")
+    os.remove(path)
     if missing or lost:
         print(f"{folder}: no step {sorted(missing)}; not asked {lost}")
 

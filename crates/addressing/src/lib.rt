@@ -1,4 +1,6 @@
 // The effective address: IPR- and PR-relative, then through at most 64 pointer words.
+#![tactic(auto)]
+
 ghost use Rattle.std.specs.Prelude.{◌≡◌, true, ◌+◌, ◌≤◌, length, take, drop};
 ghost use Rattle.model.specs.Words.{instruction_in, descriptor_in};
 ghost use Rattle.model.specs.Questions.{all, pointer_in_range};

@@ -1,4 +1,6 @@
 // What a descriptor lets a ring do, and the questions by use, after 11 to 15: 21 to 30, and 15 of the rest of a frame, each use's in order. 0 is a yes to all.
+#![tactic(auto)]
+
 ghost use Rattle.std.specs.Prelude.{◌≡◌, ◌≤◌, min};
 ghost use Rattle.model.specs.Words.{descriptor_in};
 ghost use Rattle.model.specs.Questions as Questions;

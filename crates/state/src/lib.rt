@@ -1,4 +1,6 @@
 // What a step works on by value, and what it and a run answer; the PRs in place.
+#![tactic(auto)]
+
 ghost use Rattle.std.specs.Prelude.{◌≡◌, max};
 ghost use Rattle.model.specs.Registers as Registers;
 ghost use Rattle.words.specs.View.{as_pointer};

@@ -1,4 +1,6 @@
 // Descriptor, pointer and instruction words decoded and encoded, each equal to its definition in `model`.
+#![tactic(auto)]
+
 pub mod descriptor;
 pub mod instruction;
 pub mod pointer;
