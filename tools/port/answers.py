@@ -105,6 +105,10 @@ def paths_turned(text, goal, function, missing):
             if match[1]:
                 missing.add(step)
             new = step
+        if new.startswith("if-not") and rest in (".true", ".false"):
+            # a test of `!x` told of `not x`, and tells of `x` now
+            missing.add("not")
+            return f"(ap not c.{new}{rest})"
         return "c." + new + re.sub(r"^\.given\.1", ".is", rest)
 
     return re.sub(rf"(?<![^\s(,;\[])c((?:\.before)*)\.({NAME})((?:\.{NAME})*)", path, text)
@@ -180,6 +184,11 @@ def turn(crate, folder, entry):
     shared = [(c + b).rstrip() for c, b in helpers if b.strip()]
     out += ["\n\n".join(shared + [m for m in made])]
     result = "\n".join(out).rstrip() + "\n"
+    if "not" in missing:
+        missing.discard("not")
+        for name, home in (("ap", "Rattle.std.proofs.Common"), ("not", "Rattle.std.specs.Prelude")):
+            if not re.search(rf"(?m)^use [^\n]*\{{(?:[^}}]*, )?{name}[,}}]", result):
+                result = re.sub(r"(?m)^(use \S+\.Goals as goal)$", rf"use {home}.{{{name}}}\n\1", result, count=1)
     with open(os.path.join(folder, "Answers.antt"), "w", encoding="utf-8") as file:
         file.write(result)
     if invariants:

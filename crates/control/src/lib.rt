@@ -1,4 +1,6 @@
 // The opcodes that move control: transfers, CALL and RETURN.
+#![tactic(auto)]
+
 ghost use Rattle.std.specs.Prelude.{◌≡◌, true, List, map, ◌+◌, ◌≤◌, length};
 ghost use Rattle.model.specs.Words as Words;
 ghost use Rattle.model.specs.Registers as Registers;

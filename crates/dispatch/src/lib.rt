@@ -1,5 +1,7 @@
 // What an instruction does at TPR: one jump by the opcode, with an arm for each entry of the table. It is called at one place,
 // so that the compiler merges it into the loop of a run.
+#![tactic(auto)]
+
 ghost use Rattle.std.specs.Prelude.{◌≡◌, true};
 ghost use Rattle.model.specs.Questions.{all, pointer_in_range};
 ghost use Rattle.words.specs.View.{as_pointer, PointerWithin};

@@ -1,4 +1,6 @@
 // A fault delivered: the registers at the fault as thirteen words of the save segment.
+#![tactic(auto)]
+
 ghost use Rattle.std.specs.Prelude.{◌≡◌, ◌+◌, ◌*◌, ◌<◌, ◌≤◌, length, get_or};
 ghost use Rattle.model.specs.Deliver.{frame, with_words};
 ghost use Rattle.words.specs.View.{as_pointer, PointerWithin};

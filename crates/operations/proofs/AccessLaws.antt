@@ -22,7 +22,7 @@ use Rattle.state.specs.declared.Core.{Core}
 use Rattle.state.specs.declared.After.{After}
 use Rattle.segments.specs.declared.access.Accessed.{Accessed}
 use Rattle.segments.specs.declared.access.Accessed.TheVariants.{Refused, Word}
-use Rattle.segments.specs.declared.translate.Dbr as Code-dbr
+use Rattle.segments.specs.declared.translate.Dbr as CodeDbr
 use Rattle.state.proofs.DoesLaws.{does_fault, does_advance, read_goes_on}
 use Rattle.operations.specs.Rest.{sets_a, sets_dbr, stores_sum}
 
@@ -46,7 +46,7 @@ a_set c z d x k w u g h i =
     }
 
 -- LDBR, once the word is read
-module _ (c : Core) (d : Descriptor) (t : Pointer) (x : After) (n w : ℕ) (v : Code_dbr.Dbr) (g : as_dbr v ≡ dbr_in w) (b : Bool) (h : b ≡ dbr_fits n (as_dbr v)) where
+module _ (c : Core) (d : Descriptor) (t : Pointer) (x : After) (n w : ℕ) (v : CodeDbr.Dbr) (g : as_dbr v ≡ dbr_in w) (b : Bool) (h : b ≡ dbr_fits n (as_dbr v)) where
   pub dbr_refused : (u : Code.Pointer) → not b ≡ true → x ≡ faulted_after c d 34 u → as_pointer u ≡ t → DoesAnywhere c d (sets_dbr n w t) x
   unfolding sets_dbr Step.if_dbr_fits execute
   dbr_refused u i j l = record { does = λ ps m. does_fault c d ps m _ x 34 u j (rw (← g, ← h, not-true b i, l)) }

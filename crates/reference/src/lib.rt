@@ -1,1 +1,3 @@
 // Document 03's definitions (specs/) and their equality with the model (proofs/), and no code.
+
+#![tactic(auto)]

@@ -23,7 +23,7 @@ use Rattle.words.specs.declared.pointer.Pointer as Code
 use Rattle.segments.specs.Translation.{as_dbr, SegmentFits, SegmentHolds, descriptor_word, use_at, looked}
 use Rattle.segments.specs.declared.translate.Translated.{Translated}
 use Rattle.segments.specs.declared.translate.Translated.TheVariants.{Refused, Passed}
-use Rattle.segments.specs.declared.translate.Dbr as Code-dbr
+use Rattle.segments.specs.declared.translate.Dbr as CodeDbr
 use Rattle.segments.proofs.UseLaws.{segment_fits, look_refused}
 use Rattle.state.specs.View.{pointers_in, as_pointers, registers_with, machine_with, ended, passed_by}
 use Rattle.state.specs.declared.Core.{Core}
@@ -165,7 +165,7 @@ module _ (c : Core) (ps : List Pointer) (m : List ℕ) (p : Program) (x : Settle
   unfolding ended machine
   ends_complete us k e r f g = rw e (record { ends = g ∙ ap (λ z. completes (record { registers = z; memory = m })) (sym f) })
 
-module _ (c : Core) (ps : List Pointer) (size : ℕ) (f : List ℕ) (t : Pointer) (v : Code_dbr.Dbr) (g : as_dbr v ≡ dbr_in (get_or f 3 0))
+module _ (c : Core) (ps : List Pointer) (size : ℕ) (f : List ℕ) (t : Pointer) (v : CodeDbr.Dbr) (g : as_dbr v ≡ dbr_in (get_or f 3 0))
     (b : Bool) (h : b ≡ dbr_fits size (as_dbr v)) (x : Settled) where
   fits_as : (a : Bool) → b ≡ a → dbr_fits size (Step.registers_in f).dbr ≡ a
   unfolding Step.registers_in

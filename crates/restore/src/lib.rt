@@ -1,4 +1,6 @@
 // RCU: the registers of a frame taken up.
+#![tactic(auto)]
+
 ghost use Rattle.std.specs.Prelude.{◌≡◌, map, ◌+◌, ◌<◌, ◌≤◌, length, take, drop};
 ghost use Rattle.model.specs.Words.{descriptor_in, pointer_in};
 ghost use Rattle.model.specs.Questions.{rings_at_least, part_questions};

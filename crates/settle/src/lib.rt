@@ -1,4 +1,6 @@
 // The step at which a run of plain steps stopped: RCU performed, and a fault delivered where it can be.
+#![tactic(auto)]
+
 ghost use Rattle.std.specs.Prelude.{◌≡◌, length};
 ghost use Rattle.model.specs.Registers as Registers;
 ghost use Rattle.model.specs.Questions.{start_questions};
