@@ -84,11 +84,16 @@ class Function:
         while place is not None and place in self.places:
             place, (was, now) = self.places[place]
             if was == old or plain(was) == plain(old):
-                return now
-        for was, now in self.steps:
+                return now, self.arm(place)
+        for place, (before, (was, now)) in self.places.items():
             if plain(was) == plain(old):
-                return now
-        return None
+                return now, self.arm(before)
+        return None, None
+
+    def arm(self, place):
+        """The arm of a match that the place is in, where that is the step before."""
+        now = self.places[place][1][1] if place in self.places else ""
+        return now if now.startswith("in") else None
 
 
 # what stands in every context
@@ -100,7 +105,7 @@ def paths_turned(text, goal, function, missing):
         step, rest = match[2], match[3] or ""
         if step in GIVEN:
             return "c." + step + rest
-        new = function.step(goal, step)
+        new, arm = function.step(goal, step)
         if new is None:
             if match[1]:
                 missing.add(step)
@@ -109,7 +114,11 @@ def paths_turned(text, goal, function, missing):
             # a test of `!x` told of `not x`, and tells of `x` now
             missing.add("not")
             return f"(ap not c.{new}{rest})"
-        return "c." + new + re.sub(r"^\.given\.1", ".is", rest)
+        if rest == ".given.1" and arm:
+            return f"c.{arm}.is"
+        if new == "in_default" and rest == ".rest":
+            return "c.in_default.in_default-own.rest"
+        return "c." + new + re.sub(r"^\.(given\.1|keys\d*)$", ".is", rest)
 
     return re.sub(rf"(?<![^\s(,;\[])c((?:\.before)*)\.({NAME})((?:\.{NAME})*)", path, text)
 
@@ -144,9 +153,7 @@ def loop_turned(body, entry, folder):
     return f"abbrev pub {kind}-{new} : goal.{kind}-{new}\n{match[3]}{kind}-{new} l ={rest}"
 
 
-def turn(crate, folder, entry):
-    path = os.path.join(folder, "Proof.antt")
-    text = read(path)
+def turn(folder, text, entry):
     module = "Rattle." + ".".join(folder.split("/")[1:])
     function = Function(entry)
     head, uses, blocks = blocks_of(text)
@@ -194,24 +201,34 @@ def turn(crate, folder, entry):
     if invariants:
         with open(os.path.join(folder, "Invariants.antt"), "w", encoding="utf-8") as file:
             file.write("\n".join(kept + [f"use {module}.Given as goal", ""]) + "\n\n".join(comment + loop_turned(body, entry, folder) for comment, _, _, body in invariants) + "\n")
-    os.remove(path)
     if missing or lost:
         print(f"{folder}: no step {sorted(missing)}; not asked {lost}")
 
 
 def main(crates):
     for crate in crates:
-        names = names_of(crate)
-        for key, entry in names.items():
-            match = re.match(rf"Rattle-{crate}-proofs\.(.*)\.Lts", key)
-            if not match:
-                continue
-            folder = os.path.join("crates", crate, "proofs", *match[1].split("."))
-            if os.path.exists(os.path.join(folder, "Proof.antt")):
-                if "tie.close" in read(os.path.join(folder, "Proof.antt")):
-                    turn(crate, folder, entry)
+        proofs = {}
+        for at, _, files in os.walk(os.path.join("crates", crate, "proofs")):
+            if "Proof.antt" in files:
+                text = read(os.path.join(at, "Proof.antt"))
+                if "tie.close" in text:
+                    proofs[at] = text
+                    os.remove(os.path.join(at, "Proof.antt"))
                 else:
-                    print(f"{folder}: by hand")
+                    print(f"{at}: by hand")
+        try:
+            names = names_of(crate)
+        except SystemExit:
+            for at, text in proofs.items():
+                with open(os.path.join(at, "Proof.antt"), "w", encoding="utf-8") as file:
+                    file.write(text)
+            raise
+        for at, text in proofs.items():
+            entry = names.get(f"Rattle-{crate}-proofs." + ".".join(at.split("/")[3:]) + ".Lts")
+            if entry is None:
+                print(f"{at}: no names")
+            else:
+                turn(at, text, entry)
     return 0
 
 

@@ -1,4 +1,6 @@
 // The next instruction, formed by every question or by the quick way, up to the point where it is performed.
+#![tactic(auto)]
+
 ghost use Rattle.std.specs.Prelude.{◌≡◌, true, length};
 ghost use Rattle.model.specs.Questions.{all, pointer_in_range};
 ghost use Rattle.segments.specs.Translation.{CodeRight};

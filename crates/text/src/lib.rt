@@ -1,4 +1,6 @@
 // A number in decimal: its digits counted, and written from the last to the first.
+#![tactic(auto)]
+
 ghost use Rattle.std.specs.Prelude.{◌≡◌, ◌≤◌, ◌+◌, length};
 ghost use Rattle.model.specs.Listing.{decimal};
 ghost use Rattle.text.specs.Text.{Put, placed};
