@@ -91,9 +91,12 @@ class Function:
         return None, None
 
     def arm(self, place):
-        """The arm of a match that the place is in, where that is the step before."""
-        now = self.places[place][1][1] if place in self.places else ""
-        return now if now.startswith("in") else None
+        """The arm of a match that the place is in."""
+        while place is not None and place in self.places:
+            place, (_, now) = self.places[place]
+            if now.startswith("in"):
+                return now
+        return None
 
 
 # what stands in every context
@@ -116,8 +119,8 @@ def paths_turned(text, goal, function, missing):
             return f"(ap not c.{new}{rest})"
         if rest == ".given.1" and arm:
             return f"c.{arm}.is"
-        if new == "in_default" and rest == ".rest":
-            return "c.in_default.in_default-own.rest"
+        if new.startswith("in_default") and rest == ".rest":
+            return f"c.{new}.in_default-own.rest"
         return "c." + new + re.sub(r"^\.(given\.1|keys\d*)$", ".is", rest)
 
     return re.sub(rf"(?<![^\s(,;\[])c((?:\.before)*)\.({NAME})((?:\.{NAME})*)", path, text)
@@ -202,7 +205,9 @@ def turn(folder, text, entry):
         with open(os.path.join(folder, "Invariants.antt"), "w", encoding="utf-8") as file:
             file.write("\n".join(kept + [f"use {module}.Given as goal", ""]) + "\n\n".join(comment + loop_turned(body, entry, folder) for comment, _, _, body in invariants) + "\n")
     if missing or lost:
-        print(f"{folder}: no step {sorted(missing)}; not asked {lost}")
+        lost = [l for l in lost if not re.match(r"enum|same-length", l)]
+        if missing or lost:
+            print(f"{folder}: no step {sorted(missing)}; not asked {lost}")
 
 
 def main(crates):

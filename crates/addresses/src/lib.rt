@@ -1,4 +1,6 @@
 // A set of addresses below 8,192, a bit each: those that a WD record has had.
+#![tactic(auto)]
+
 ghost use Rattle.std.specs.Prelude.{◌≡◌, ◌||◌, ◌<◌, eqb, length};
 ghost use Rattle.addresses.specs.Set.{in_set, PutIn};
 

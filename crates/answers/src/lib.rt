@@ -1,4 +1,6 @@
 // A reply as numbers, and back.
+#![tactic(auto)]
+
 ghost use Rattle.std.specs.Prelude.{◌≡◌};
 ghost use Rattle.state.specs.Reply.{ReplyWithin};
 ghost use Rattle.answers.specs.Answer.{AnswersWith, AnswerFits, Replies};

@@ -1,4 +1,6 @@
 // Bytes moved within a buffer, and bytes that become zero.
+#![tactic(auto)]
+
 ghost use Rattle.std.specs.Prelude.{◌≡◌, ◌+◌, ◌≤◌, length};
 ghost use Rattle.buffers.specs.Move.{bytes_moved, cleared};
 

@@ -1,4 +1,6 @@
 // What a call on bytes answers: one signed number.
+#![tactic(auto)]
+
 ghost use Rattle.std.specs.Prelude.{◌≡◌, ◌<◌, ◌^◌};
 ghost use Rattle.calls.specs.Call.{as_answer};
 

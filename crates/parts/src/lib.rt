@@ -1,5 +1,6 @@
 // What a line is made of, put into a text: numbers, a pointer's numbers, and names.
 #![tactic(auto)]
+
 ghost use Rattle.std.specs.Prelude.{◌≡◌, [], ◌∷◌, ◌++◌, ◌≤◌, ◌<◌, ◌+◌, length};
 ghost use Rattle.model.specs.Listing.{decimal};
 ghost use Rattle.text.specs.Text.{placed, Put};

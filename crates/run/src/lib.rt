@@ -1,5 +1,7 @@
 // A run of plain steps under a budget: the loop around the step, and its trace. What a step does not take from the word that passed before
 // leaves the inner loop, so that the compiler lays it out of the way.
+#![tactic(auto)]
+
 ghost use Rattle.std.specs.Prelude.{◌≡◌, ◌≤◌, ◌<◌, length};
 ghost use Rattle.model.specs.Registers.{no_delivery};
 ghost use Rattle.model.specs.Questions.{start_questions};

@@ -1,5 +1,7 @@
 // A table for who may do what: its rows set the brackets and flags of every descriptor. A lent row is what C has as two numbers of 16
 // bits and six bytes: first, last, then R1 with R2, R3 with R, W with E, the first of two bytes the lower.
+#![tactic(auto)]
+
 ghost use Rattle.std.specs.Prelude.{◌≡◌, length};
 ghost use Rattle.model.specs.Brackets.{table_questions, set_brackets};
 ghost use Rattle.tables.specs.View.{as_rows, base};

@@ -1,0 +1,32 @@
+-- `reply_of` meets its contract. Assumes nothing.
+use mathlib.Core.Path.{refl}
+use borrow.Author.Rules.{rules}
+use Rattle.answers.proofs.AnswerLaws.{replies_fault, replies}
+use Rattle.answers.proofs.reply_of.Goals as goal
+
+pub overflow_cast-result : goal.overflow_cast-result
+overflow_cast-result c = search (rules, replies)
+
+pub overflow_cast-result-in-1 : goal.overflow_cast-result-in-1
+overflow_cast-result-in-1 c = search (rules, replies)
+
+pub overflow_cast-result-in-2 : goal.overflow_cast-result-in-2
+overflow_cast-result-in-2 c = search (rules, replies)
+
+pub overflow_cast-result-in_default : goal.overflow_cast-result-in_default
+overflow_cast-result-in_default c = search (rules, replies)
+
+pub overflow_cast-result-in_default-2 : goal.overflow_cast-result-in_default-2
+overflow_cast-result-in_default-2 c = search (rules, replies)
+
+pub returns-in-0 : goal.returns-in-0
+returns-in-0 c = search (rules, replies)
+
+pub returns-in-1 : goal.returns-in-1
+returns-in-1 c = search (rules, replies)
+
+pub returns-in-2 : goal.returns-in-2
+returns-in-2 c = search (rules, replies)
+
+pub returns-in_default : goal.returns-in_default
+returns-in_default c = replies_fault _ _ refl c.in_default.rest.0.0.1 c.in_default.rest.0.1 c.in_default.rest.1 c.requires

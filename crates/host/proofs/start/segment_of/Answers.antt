@@ -1,0 +1,10 @@
+-- `start::segment_of` meets its contract. Assumes nothing.
+use borrow.Author.Rules.{rules}
+use Rattle.host.proofs.RingLaws.{eight_at_once}
+use Rattle.host.proofs.start.segment_of.Goals as goal
+
+pub pr-requires : goal.pr-requires
+pr-requires c = search rules
+
+pub returns : goal.returns
+returns c = search (rules, eight_at_once)
