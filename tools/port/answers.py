@@ -119,10 +119,12 @@ def paths_turned(text, goal, function, missing):
             return f"(ap not c.{new}{rest})"
         if rest == ".given.1" and arm:
             return f"c.{arm}.is"
-        if new.startswith("in_default") and rest == ".rest":
-            return f"c.{new}.in_default-own.rest"
+        if new.startswith("in_default") and re.match(r"\.rest(?=\.|$)", rest):
+            return f"c.{new}.in_default-own{rest}"
         return "c." + new + re.sub(r"^\.(given\.1|keys\d*)$", ".is", rest)
 
+    # what a match told of its value's numbers is known without a name now
+    text = re.sub(rf"search \(rules, c(?:\.before)*\.(?:known|enum)[_-]told\S*\.given\)", "search rules", text)
     return re.sub(rf"(?<![^\s(,;\[])c((?:\.before)*)\.({NAME})((?:\.{NAME})*)", path, text)
 
 

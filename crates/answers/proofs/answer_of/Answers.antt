@@ -28,13 +28,13 @@ pub overflow_cast-result-in-Fault-2 : goal.overflow_cast-result-in-Fault-2
 overflow_cast-result-in-Fault-2 c = search (rules, replies)
 
 pub returns-in-Refused : goal.returns-in-Refused
-returns-in-Refused c = refused_answered _ _ _ _ _ c.in-Refused.is (search (rules, c.known_told-1.given)) c.no_pointer.ensures
+returns-in-Refused c = refused_answered _ _ _ _ _ c.in-Refused.is (search rules) c.no_pointer.ensures
 
 pub returns-in-Spent : goal.returns-in-Spent
-returns-in-Spent c = spent_answered _ _ _ _ _ c.in-Spent.is (search (rules, c.known_told-in-Spent-1.given)) c.no_pointer-in-Spent.ensures
+returns-in-Spent c = spent_answered _ _ _ _ _ c.in-Spent.is (search rules) c.no_pointer-in-Spent.ensures
 
 pub returns-in-Halted : goal.returns-in-Halted
-returns-in-Halted c = halted_answered _ _ _ _ _ c.in-Halted.is (search (rules, c.known_told-in-Halted-1.given)) c.no_pointer-in-Halted.ensures
+returns-in-Halted c = halted_answered _ _ _ _ _ c.in-Halted.is (search rules) c.no_pointer-in-Halted.ensures
 
 pub returns-in-Fault : goal.returns-in-Fault
-returns-in-Fault c = fault_answered _ _ _ _ _ _ c.requires c.in-Fault.is (search (rules, c.known_told-in-Fault-1.given)) (search (rules, c.known_told-in-Fault-1.given))
+returns-in-Fault c = fault_answered _ _ _ _ _ _ c.requires c.in-Fault.is (search rules) (search rules)

@@ -29,4 +29,4 @@ pub returns-in-2 : goal.returns-in-2
 returns-in-2 c = search (rules, replies)
 
 pub returns-in_default : goal.returns-in_default
-returns-in_default c = replies_fault _ _ refl c.in_default.rest.0.0.1 c.in_default.rest.0.1 c.in_default.rest.1 c.requires
+returns-in_default c = replies_fault _ _ refl c.in_default.in_default-own.rest.0.0.1 c.in_default.in_default-own.rest.0.1 c.in_default.in_default-own.rest.1 c.requires
