@@ -1,4 +1,6 @@
 // A run with its faults delivered and its frames taken up, in parts: plain steps, and the step at which they stop.
+#![tactic(auto)]
+
 ghost use Rattle.std.specs.Prelude.{◌≡◌, ◌*◌, ◌≤◌, ◌<◌};
 ghost use Rattle.model.specs.Registers.{no_delivery};
 ghost use Rattle.model.specs.Questions.{start_questions};

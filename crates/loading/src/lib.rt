@@ -1,4 +1,6 @@
 // What the records so far gave, and what comes of one record.
+#![tactic(auto)]
+
 ghost use Rattle.std.specs.Prelude.{◌≡◌, length, replicate};
 ghost use Rattle.loading.specs.View.{Starts, StartsSizing};
 

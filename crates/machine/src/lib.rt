@@ -1,4 +1,6 @@
 // 1 to 4, then a run: the host tests nothing first.
+#![tactic(auto)]
+
 ghost use Rattle.std.specs.Prelude.{◌≡◌};
 ghost use Rattle.model.specs.Questions.{start_questions};
 ghost use Rattle.state.specs.View.{as_machine, as_delivery};

@@ -1,4 +1,6 @@
 // Descriptors of the old benches, a segment of them, made into today's and back where they stand, all or nothing.
+#![tactic(auto)]
+
 ghost use Rattle.std.specs.Prelude.{◌≡◌, map};
 ghost use Rattle.model.specs.Old.{converted_word, words_answer, convert_words};
 ghost use Rattle.old.specs.View.{as_way, as_answer};

@@ -1,5 +1,7 @@
 // 1 to 4, then plain steps. All that they do is merged into `run_numbers`, the loop of steps with it; what is seldom done, a delivered
 // fault and RCU, stays outside it, so that it costs the loop nothing.
+#![tactic(auto)]
+
 ghost use Rattle.std.specs.Prelude.{cond, true, false, [], ◌≡◌, ◌+◌, ◌^◌, ◌<◌};
 ghost use Rattle.plain.specs.Plain.{core_of, PlainAs};
 
