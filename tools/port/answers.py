@@ -117,7 +117,7 @@ def paths_turned(text, goal, function, missing):
             # a test of `!x` told of `not x`, and tells of `x` now
             missing.add("not")
             return f"(ap not c.{new}{rest})"
-        if rest == ".given.1" and arm:
+        if rest in (".given", ".given.1") and arm:
             return f"c.{arm}.is"
         if new.startswith("in_default") and re.match(r"\.rest(?=\.|$)", rest):
             return f"c.{new}.in_default-own{rest}"
@@ -166,7 +166,7 @@ def turn(folder, text, entry):
     renamed = {}
     for block in blocks:
         comment = "".join(l + "\n" for l in block.split("\n") if l.startswith("--"))
-        body = "\n".join(l for l in block.split("\n") if not l.startswith("--"))
+        body = "\n".join(l for l in block.split("\n") if not l.startswith("--")).strip("\n")
         if not body.strip():
             helpers.append((comment.rstrip(), ""))
             continue

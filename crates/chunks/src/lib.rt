@@ -1,4 +1,6 @@
 // A chunk of a listing: some steps of a run and their lines, with the last line where the run ends with them.
+#![tactic(auto)]
+
 ghost use Rattle.std.specs.Prelude.{◌≡◌, ◌+◌, ◌*◌, ◌/◌, ◌^◌, ◌≤◌, ◌<◌, length, take};
 ghost use Rattle.model.specs.Questions.{start_questions};
 ghost use Rattle.model.specs.Listing.{step_line, step_lines};

@@ -1,5 +1,7 @@
 // A stored image converted, whole or in pieces: its records are judged as loading does, the last WD of each address is kept, and ST
 // gains five zero bytes.
+#![tactic(auto)]
+
 ghost use Rattle.std.specs.Prelude.{◌≡◌, true, ◌+◌, ◌≤◌, length};
 ghost use Rattle.model.specs.Convert.{convert_call};
 ghost use Rattle.model.specs.Image.{machine_of};

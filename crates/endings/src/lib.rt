@@ -1,4 +1,6 @@
 // The line with which a listing ends.
+#![tactic(auto)]
+
 ghost use Rattle.std.specs.Prelude.{[], ◌∷◌, ◌++◌, ◌≤◌, ◌+◌, length};
 ghost use Rattle.model.specs.Listing.{decimal, last_line};
 ghost use Rattle.model.specs.Run.{fault};

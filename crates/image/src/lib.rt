@@ -1,4 +1,6 @@
 // An image loaded record by record, whole or in pieces, equal to its definition in `model`.
+#![tactic(auto)]
+
 pub mod load;
 pub mod piece;
 mod words;

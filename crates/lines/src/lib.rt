@@ -1,4 +1,6 @@
 // The line of a completed step.
+#![tactic(auto)]
+
 ghost use Rattle.std.specs.Prelude.{◌≡◌, ◌≤◌, ◌<◌, ◌+◌, length, take};
 ghost use Rattle.model.specs.Listing.{step_line};
 ghost use Rattle.words.specs.View.{as_pointer, PointerWithin};

@@ -1,4 +1,6 @@
 // A listing, a chunk of steps at a time, as many lines as a text has room for.
+#![tactic(auto)]
+
 ghost use Rattle.std.specs.Prelude.{◌≡◌, ◌+◌, ◌*◌, ◌≤◌, ◌<◌, min, length};
 ghost use Rattle.model.specs.Questions.{start_questions};
 ghost use Rattle.state.specs.View.{as_machine, as_delivery};

@@ -1,4 +1,6 @@
 // One record, at the front of the bytes: 41 to 44 and 51, and what it loads.
+#![tactic(auto)]
+
 ghost use Rattle.std.specs.Prelude.{◌≡◌, ◌≤◌, ◌<◌, length};
 ghost use Rattle.std.proofs.Math.Option.{some};
 ghost use Rattle.model.specs.Image as Image;

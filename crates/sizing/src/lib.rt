@@ -1,4 +1,6 @@
 // What an image will need: its records are read as loading reads them, and no word of them is kept.
+#![tactic(auto)]
+
 ghost use Rattle.std.specs.Prelude.{◌≡◌, ◌-◌, ◌/◌, replicate};
 ghost use Rattle.model.specs.Image.{checked};
 ghost use Rattle.model.specs.Needs.{needs_refused, needs_on, image_needs};
