@@ -1,4 +1,6 @@
 // May I call there? CALL's check of any pointer, over a register record and a memory that are only read.
+#![tactic(auto)]
+
 ghost use Rattle.std.specs.Prelude.{◌≡◌, ◌≤◌};
 ghost use Rattle.model.specs.Registers.{zero_pointer, with_ring_at_least};
 ghost use Rattle.model.specs.Answers.{check_numbers};

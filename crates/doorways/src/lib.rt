@@ -1,4 +1,6 @@
 // The list of doors: the segments whose gates lead into a lower ring, by the descriptors of a start, a line each.
+#![tactic(auto)]
+
 ghost use Rattle.std.specs.Prelude.{◌≡◌, ℕ, ◌+◌, ◌≤◌, length};
 ghost use Rattle.model.specs.Image.{checked};
 ghost use Rattle.model.specs.Doors.{doors, door_lines, faults_line, image_doors};

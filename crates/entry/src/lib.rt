@@ -1,4 +1,6 @@
 // A call on a register record and a memory that the host lends: a run, or a single step.
+#![tactic(auto)]
+
 ghost use Rattle.state.specs.View.{as_delivery};
 ghost use Rattle.entry.specs.Call.{together, CoreSays, CallSays};
 

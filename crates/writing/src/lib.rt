@@ -1,4 +1,6 @@
 // An image of registers and memory, written into a text.
+#![tactic(auto)]
+
 ghost use Rattle.std.specs.Prelude.{◌≡◌, ◌≤◌, ◌+◌, ◌*◌, length};
 ghost use Rattle.model.specs.Write.{written_image};
 ghost use Rattle.host.specs.Record.{machine_of, delivery_of};

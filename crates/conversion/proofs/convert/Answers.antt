@@ -1,6 +1,6 @@
 -- `convert` meets its contract. Assumes nothing.
 use borrow.Author.Rules.{rules}
-use Rattle.conversion.proofs.WholeLaws.{wholes}
+use Rattle.conversion.proofs.WholeLaws.{wholes, convert_refused, convert_ready}
 use Rattle.conversion.proofs.convert.Goals as goal
 
 pub returns-then-image-lt5 : goal.returns-then-image-lt5
@@ -24,3 +24,9 @@ convert_piece-x-requires c = search (rules, wholes)
 pub returns-in-More : goal.returns-in-More
 returns-in-More c = search (rules, wholes)
 
+
+pub returns-in-Refused : goal.returns-in-Refused
+returns-in-Refused c = convert_refused _ _ _ _ _ _ c.nothing_loaded.ensures.0 c.empty_store-store.ensures.0 c.convert_piece-x.ensures _ c.in-Refused.is
+
+pub returns-in-Ready : goal.returns-in-Ready
+returns-in-Ready c = convert_ready _ _ _ _ _ _ c.nothing_loaded.ensures.0 c.empty_store-store.ensures.0 c.convert_piece-x.ensures c.well_formed.0.1 c.if-image-lt5.false _ c.in-Ready.is
