@@ -1,4 +1,6 @@
 // The bench's call: an image loaded and run whole, for its listing.
+#![tactic(auto)]
+
 ghost use Rattle.model.specs.Image.{checked};
 ghost use Rattle.model.specs.Bench as Bench;
 ghost use Rattle.host.specs.Record.{machine_of, delivery_of};

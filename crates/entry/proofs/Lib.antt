@@ -1,4 +1,3 @@
 -- What the proofs of this crate share. Assumes nothing.
-pub mod InPlace
 pub mod CallLaws
 pub mod StepLaws
