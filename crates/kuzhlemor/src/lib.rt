@@ -1,5 +1,7 @@
 // The C library: a run and a step over a register record and a memory that the host lends, CALL's check over ones that are only read,
 // an image run whole, a stored one converted, a table for who may do what, descriptors of the old benches, and an image's needs.
+#![tactic(auto)]
+
 ghost use Rattle.std.specs.Prelude.{◌≡◌};
 ghost use Rattle.model.specs.Answers.{check_numbers};
 ghost use Rattle.model.specs.Check.{check};

@@ -1,6 +1,6 @@
 -- `bench` meets its contract. Assumes nothing.
 use borrow.Author.Rules.{rules}
-use Rattle.dosing.proofs.BenchLaws.{whole_image}
+use Rattle.dosing.proofs.BenchLaws.{whole_image, image_refused}
 use Rattle.dosing.proofs.bench.Goals as goal
 
 pub empty_store-store-requires : goal.empty_store-store-requires
@@ -28,7 +28,7 @@ pub list_loaded-requires : goal.list_loaded-requires
 list_loaded-requires c = search rules
 
 pub returns-in-Refused : goal.returns-in-Refused
-returns-in-Refused c = search (rules, whole_image)
+returns-in-Refused c = image_refused _ _ _ _ _ _ c.nothing_loaded.ensures.0 c.empty_store-store.ensures.0 c.load-x.ensures _ c.in-Refused.is
 
 pub returns-in-More : goal.returns-in-More
 returns-in-More c = search (rules, whole_image)
