@@ -24,7 +24,6 @@ convert_piece-x-requires c = search (rules, wholes)
 pub returns-in-More : goal.returns-in-More
 returns-in-More c = search (rules, wholes)
 
-
 pub returns-in-Refused : goal.returns-in-Refused
 returns-in-Refused c = convert_refused _ _ _ _ _ _ c.nothing_loaded.ensures.0 c.empty_store-store.ensures.0 c.convert_piece-x.ensures _ c.in-Refused.is
 
