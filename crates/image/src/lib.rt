@@ -3,4 +3,4 @@
 
 pub mod load;
 pub mod piece;
-mod words;
+mod word_records;

@@ -2,7 +2,7 @@
 ghost use Rattle.loading.specs.View.{LoadingWithin};
 ghost use Rattle.image.specs.Load.{LoadedAs};
 
-use crate::words::load_next;
+use crate::word_records::load_next;
 use loading::{Loading, Outcome, Recorded};
 
 #[derive(Clone, Copy)]

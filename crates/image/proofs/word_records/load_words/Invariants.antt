@@ -4,7 +4,7 @@ use lib.ListN.{length}
 use borrow.Author.Rules.{rules}
 use Rattle.image.specs.Load.{WordsLoaded}
 use Rattle.image.proofs.LoadLaws.{words}
-use Rattle.image.proofs.words.load_words.Given as goal
+use Rattle.image.proofs.word_records.load_words.Given as goal
 
 abbrev pub invariant-loop-loading : goal.invariant-loop-loading
 invariant-loop-loading l = WordsLoaded l.loading l.initial.store l.bytes l.at l.store × (l.at ≤ length l.bytes) × (length l.store ≡ length l.initial.store)

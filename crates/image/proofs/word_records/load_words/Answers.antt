@@ -5,7 +5,7 @@ use lib.ListN.{length}
 use borrow.Author.Rules.{rules}
 use Rattle.image.specs.Load.{WordsLoaded}
 use Rattle.image.proofs.LoadLaws.{words}
-use Rattle.image.proofs.words.load_words.Goals as goal
+use Rattle.image.proofs.word_records.load_words.Goals as goal
 
 pub loop-loading-init : goal.loop-loading-init
 loop-loading-init c = search (rules, words)

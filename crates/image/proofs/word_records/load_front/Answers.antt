@@ -2,7 +2,7 @@
 use borrow.Author.Rules.{rules}
 use borrow.Author.Tests.{not-true, not-false}
 use Rattle.image.proofs.LoadLaws.{fronts}
-use Rattle.image.proofs.words.load_front.Goals as goal
+use Rattle.image.proofs.word_records.load_front.Goals as goal
 
 pub is_word-requires : goal.is_word-requires
 is_word-requires c = search rules

@@ -1,7 +1,7 @@
 -- `words::load_next` meets its contract. Assumes nothing.
 use borrow.Author.Rules.{rules}
 use Rattle.image.proofs.LoadLaws.{words, nexts}
-use Rattle.image.proofs.words.load_next.Goals as goal
+use Rattle.image.proofs.word_records.load_next.Goals as goal
 
 pub load_words-used-requires : goal.load_words-used-requires
 load_words-used-requires c = search (rules, words, nexts)

@@ -1,7 +1,7 @@
 -- `words::is_word` meets its contract. Assumes nothing.
 use borrow.Author.Rules.{rules}
 use Rattle.image.proofs.LoadLaws.{fronts}
-use Rattle.image.proofs.words.is_word.Goals as goal
+use Rattle.image.proofs.word_records.is_word.Goals as goal
 
 pub returns-then-bytes-lt14 : goal.returns-then-bytes-lt14
 returns-then-bytes-lt14 c = search (rules, fronts)
