@@ -15,8 +15,8 @@ pub struct Piece {
     pub has_failed: bool,
 }
 
-// Says on standard error why standard input can't be read. Where that can't be written either, nobody is told.
-fn fail(rt: &impl Eprint, why: impl Display + Drop) {
+// Says on standard error what is wrong with standard input. Where that can't be written either, nobody is told.
+pub fn fail(rt: &impl Eprint, why: impl Display + Drop) {
     let _told = eprintln!(rt; "standard input: {why}");
 }
 
