@@ -102,7 +102,13 @@ fn put_answer(
 }
 
 // There is room for a record of each word of the whole store.
-fn print_answer(rt: &impl Print, registers: Registers, memory: &mut [u64], budget: u32, rows: &[[u16; 5]])
+fn print_answer(
+    rt: &impl Print,
+    registers: Registers,
+    memory: &mut [u64],
+    budget: u32,
+    rows: &[[u16; 5]],
+)
     requires { length memory.old ≤ 8320 }
 {
     let mut text = [0u8; 116558];
