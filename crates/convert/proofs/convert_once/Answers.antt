@@ -1,5 +1,4 @@
 -- What `convert_once` owes. Assumes nothing.
-use Rattle.std.proofs.Common.{rules}
 use Rattle.convert.proofs.TurnLaws.{outcome_fits}
 use Rattle.convert.proofs.convert_once.Goals as goal
 
