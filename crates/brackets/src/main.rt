@@ -1,5 +1,7 @@
 // The laptop's program for a table of brackets: its rows and an image on standard input, the image with its descriptors so set on
 // standard output.
+#![tactic(auto)]
+
 ghost use Rattle.std.specs.Prelude.{◌≡◌, ◌≤◌, ◌+◌, ◌*◌, ◌/◌, ◌%◌, length};
 ghost use Rattle.model.specs.Image.{number_at, checked};
 ghost use Rattle.model.specs.Listing.{refusal_line};
@@ -52,11 +54,11 @@ enum Read {
 }
 
 // Reads so many rows, and keeps as many as there is room for.
-fn read_rows(rows: &mut [[u16; 5]], count: usize) -> Read {
+fn read_rows(rt: &(impl Input + Eprint), rows: &mut [[u16; 5]], count: usize) -> Read {
     let mut bytes = [0u8; 10];
     let mut i = 0;
     while i < count {
-        let x = streams::read_whole(&mut bytes);
+        let x = streams::read_whole(rt, &mut bytes);
         if x.has_failed {
             return Read::Failed;
         }
@@ -100,53 +102,56 @@ fn put_answer(
 }
 
 // There is room for a record of each word of the whole store.
-fn print_answer(registers: Registers, memory: &mut [u64], budget: u32, rows: &[[u16; 5]])
+fn print_answer(
+    rt: &impl Print,
+    registers: Registers,
+    memory: &mut [u64],
+    budget: u32,
+    rows: &[[u16; 5]],
+)
     requires { length memory.old ≤ 8320 }
 {
     let mut text = [0u8; 116558];
     let size = put_answer(&mut text, registers, memory, budget, rows);
-    streams::print(&text, size);
+    streams::print(rt, &text, size);
 }
 
 // What the image itself is refused for comes first, then the table.
-fn bracket_image(rows: &[[u16; 5]]) {
+fn bracket_image(rt: &(impl Input + Print + Eprint), rows: &[[u16; 5]]) {
     let mut store = loading::empty_store();
-    let x = reading::image_on_input(&mut store);
+    let x = reading::image_on_input(rt, &mut store);
     if x.is_whole {
         let words = x.words;
-        print_answer(x.registers, &mut store[..words], x.budget, rows);
+        print_answer(rt, x.registers, &mut store[..words], x.budget, rows);
     }
 }
 
 // How many rows in two bytes, the rows, then the image. A 33rd row is kept, and no more: with it there are too many.
-fn main() {
+fn main(rt: HostRuntime) {
     let mut head = [0u8; 2];
-    let x = streams::read_whole(&mut head);
+    let x = streams::read_whole(&rt, &mut head);
     if x.has_failed {
-        os::fail(b"standard input");
         return;
     }
     if x.size < 2 {
-        streams::print_refusal(41);
+        streams::print_refusal(&rt, 41);
         return;
     }
     let count = number_2(&head, 0) as usize;
     let none = [0u16; 5];
     let mut rows = [none; 33];
-    let read = read_rows(&mut rows, count);
+    let read = read_rows(&rt, &mut rows, count);
     match read {
-        Read::Failed => {
-            os::fail(b"standard input");
-        }
+        Read::Failed => {}
         Read::CutShort => {
-            streams::print_refusal(41);
+            streams::print_refusal(&rt, 41);
         }
         Read::Whole => {
             if count > 33 {
-                bracket_image(&rows[..33]);
+                bracket_image(&rt, &rows[..33]);
                 return;
             }
-            bracket_image(&rows[..count]);
+            bracket_image(&rt, &rows[..count]);
         }
     }
 }

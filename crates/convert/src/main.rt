@@ -1,4 +1,6 @@
 // The laptop's program for stored images: an old image on standard input, the new one on standard output.
+#![tactic(auto)]
+
 ghost use Rattle.std.specs.Prelude.{◌≡◌, ◌+◌, ◌≤◌, length};
 ghost use Rattle.convert.specs.Turn.{Goes_on, OutcomeWithin, ProgressFits, RoomLeft, TurnWithin};
 
@@ -10,7 +12,7 @@ use streams::Piece;
 enum Progress {
     // The input goes on.
     Reads,
-    // It can't be read.
+    // It can't be read, which has been told.
     Failed,
     // The first question with a no.
     Refused(u8),
@@ -81,21 +83,27 @@ fn next_turn(x: Converted, buffer: &mut [u8], size: usize) -> Turn
 }
 
 // Reads on, but not into the buffer's last five bytes, which are for ST.
-fn read_more(buffer: &mut [u8], size: usize) -> Piece
+fn read_more(rt: &(impl Input + Eprint), buffer: &mut [u8], size: usize) -> Piece
     requires { size + 5 ≤ length buffer.old }
     ensures { (size ≤ result.size) × (result.size + 5 ≤ length buffer.new) }
 {
     let limit = buffer.len() - 5;
-    streams::read_piece(&mut buffer[..limit], size)
+    streams::read_piece(rt, &mut buffer[..limit], size)
 }
 
 // One piece more, read and converted.
-fn convert_once(loading: Loading, room: Room, store: &mut [u64], buffer: &mut [u8]) -> Turn
+fn convert_once(
+    rt: &(impl Input + Eprint),
+    loading: Loading,
+    room: Room,
+    store: &mut [u64],
+    buffer: &mut [u8],
+) -> Turn
     requires { TurnWithin loading room store.old buffer.old }
     ensures { TurnWithin result.loading result.room store.new buffer.new × ProgressFits result.progress buffer.new }
 {
     let kept = room.kept;
-    let piece = read_more(buffer, room.size);
+    let piece = read_more(rt, buffer, room.size);
     if piece.has_failed {
         return Turn {
             loading,
@@ -109,7 +117,7 @@ fn convert_once(loading: Loading, room: Room, store: &mut [u64], buffer: &mut [u
 }
 
 // Reads and converts until an image is whole or refused.
-fn convert_input(buffer: &mut [u8]) -> Progress
+fn convert_input(rt: &(impl Input + Eprint), buffer: &mut [u8]) -> Progress
     requires { 5 ≤ length buffer.old }
     ensures { ProgressFits result buffer.new }
 {
@@ -122,7 +130,7 @@ fn convert_input(buffer: &mut [u8]) -> Progress
     // A proved loop has to end, and nothing says that an input does: no input has so many pieces.
     let mut turns = u64::MAX;
     while turns > 0 {
-        x = convert_once(x.loading, x.room, &mut store, buffer);
+        x = convert_once(rt, x.loading, x.room, &mut store, buffer);
         let progress = x.progress;
         match progress {
             Progress::Reads => {}
@@ -141,19 +149,17 @@ fn convert_input(buffer: &mut [u8]) -> Progress
     Progress::Reads
 }
 
-fn main() {
+fn main(rt: HostRuntime) {
     let mut buffer = empty_buffer();
-    let progress = convert_input(&mut buffer);
+    let progress = convert_input(&rt, &mut buffer);
     match progress {
         Progress::Reads => {}
-        Progress::Failed => {
-            os::fail(b"standard input");
-        }
+        Progress::Failed => {}
         Progress::Refused(n) => {
-            streams::print_refusal(n);
+            streams::print_refusal(&rt, n);
         }
         Progress::Ready(n) => {
-            streams::print(&buffer, n);
+            streams::print(&rt, &buffer, n);
         }
     }
 }

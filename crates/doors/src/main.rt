@@ -1,19 +1,21 @@
 // The laptop's program for the list of doors: an image on standard input, the list on standard output.
+#![tactic(auto)]
+
 use host::record::Registers;
 
 // There is room for a line of every segment.
-fn print_listing(registers: Registers, memory: &[u64]) {
+fn print_listing(rt: &impl Print, registers: Registers, memory: &[u64]) {
     let mut text = [0u8; 131136];
     let size = doorways::put_listing(&mut text, registers, memory);
-    streams::print(&text, size);
+    streams::print(rt, &text, size);
 }
 
 // What the image itself is refused for comes first, then 1 to 4, then the list.
-fn main() {
+fn main(rt: HostRuntime) {
     let mut store = loading::empty_store();
-    let x = reading::image_on_input(&mut store);
+    let x = reading::image_on_input(&rt, &mut store);
     if x.is_whole {
         let words = x.words;
-        print_listing(x.registers, &store[..words]);
+        print_listing(&rt, x.registers, &store[..words]);
     }
 }

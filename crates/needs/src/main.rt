@@ -1,4 +1,6 @@
 // The laptop's program for what an image will need: an image on standard input, its needs on standard output.
+#![tactic(auto)]
+
 ghost use Rattle.std.specs.Prelude.{[], ◌∷◌, ◌++◌, ◌≤◌, ◌+◌, length};
 ghost use Rattle.model.specs.Listing.{decimal};
 ghost use Rattle.model.specs.Needs.{need_line, needs_lines};
@@ -39,28 +41,31 @@ fn put_needs(text: &mut [u8], needs: Needs) -> usize
     put_figures(text, needs)
 }
 
-fn print_needs(needs: Needs) {
+fn print_needs(rt: &impl Print, needs: Needs) {
     let mut text = [0u8; 150];
     let size = put_needs(&mut text, needs);
-    streams::print(&text, size);
+    streams::print(rt, &text, size);
 }
 
 // The image is read in pieces, of which no word is kept. `More`: it can't be read, as has been said.
-fn main() {
+fn main(rt: HostRuntime) {
     let mut set = loading::empty_set();
-    let x = reading::read_image(&mut set);
+    let x = reading::read_image(&rt, &mut set);
     let length = x.length;
     let loaded = x.loaded;
     let loading = loaded.loading;
     let outcome = loaded.outcome;
     match outcome {
         LoadOutcome::Refused(n) => {
-            print_needs(sizing::refused(n));
+            print_needs(&rt, sizing::refused(n));
         }
         LoadOutcome::More(_kept) => {}
         LoadOutcome::Ready(budget) => {
             let registers = loading.registers;
-            print_needs(sizing::needs_of(registers, loading.words, budget, length));
+            print_needs(
+                &rt,
+                sizing::needs_of(registers, loading.words, budget, length),
+            );
         }
     }
 }

@@ -1,5 +1,7 @@
 // The laptop's program for descriptors of the old benches: the way and a segment of words on standard input, the words that they become
 // on standard output.
+#![tactic(auto)]
+
 ghost use Rattle.std.specs.Prelude.{◌≡◌, ◌≤◌, ◌<◌, ◌+◌, ◌*◌, length, [], ◌∷◌};
 ghost use Rattle.model.specs.Listing.{ascii, decimal, line};
 ghost use Rattle.model.specs.Old.{words_at, words_bytes, converted_text, words_text};
@@ -7,7 +9,6 @@ ghost use Rattle.old.specs.View.{as_way, as_answer};
 ghost use Rattle.text.specs.Text.{Put};
 
 use fields::number::number_8;
-use libc::STDERR_FILENO;
 use old::Answer;
 use writing::number::put_number;
 
@@ -66,50 +67,45 @@ fn put_converted(text: &mut [u8], words: &mut [u64], bytes: &[u8], back: bool) -
     put_answer(text, words, x)
 }
 
-fn print_converted(bytes: &[u8], back: bool)
+fn print_converted(rt: &(impl Print + Eprint), bytes: &[u8], back: bool)
     requires { length bytes.now ≤ 32768 }
 {
     let count = bytes.len() / 8;
     if 8 * count != bytes.len() {
-        io::write_all(
-            STDERR_FILENO,
-            b"standard input: the last word is cut short\n",
-        );
+        streams::fail(rt, "the last word is cut short");
         return;
     }
     let mut words = [0u64; 4096];
     let mut text = [0u8; 32768];
     let size = put_converted(&mut text, &mut words[..count], bytes, back);
-    streams::print(&text, size);
+    streams::print(rt, &text, size);
 }
 
 // Reads the words; with one byte more than fits there are too many.
-fn convert_input(back: bool) {
+fn convert_input(rt: &(impl Input + Print + Eprint), back: bool) {
     let mut bytes = [0u8; 32769];
-    let x = streams::read_whole(&mut bytes);
+    let x = streams::read_whole(rt, &mut bytes);
     if x.has_failed {
-        os::fail(b"standard input");
         return;
     }
     let size = x.size;
     if size > 32768 {
-        io::write_all(STDERR_FILENO, b"standard input: more than 4096 words\n");
+        streams::fail(rt, "more than 4096 words");
         return;
     }
-    print_converted(&bytes[..size], back);
+    print_converted(rt, &bytes[..size], back);
 }
 
 // The way in one byte, 0 from old to today's and any other back; then at most 4,096 words, of 8 bytes each, high byte first.
-fn main() {
+fn main(rt: HostRuntime) {
     let mut way = [0u8; 1];
-    let x = streams::read_whole(&mut way);
+    let x = streams::read_whole(&rt, &mut way);
     if x.has_failed {
-        os::fail(b"standard input");
         return;
     }
     if x.size < 1 {
-        io::write_all(STDERR_FILENO, b"standard input: it is empty\n");
+        streams::fail(&rt, "it is empty");
         return;
     }
-    convert_input(way[0] != 0);
+    convert_input(&rt, way[0] != 0);
 }

@@ -1,4 +1,6 @@
 // An image read from standard input.
+#![tactic(auto)]
+
 ghost use Rattle.std.specs.Prelude.{◌≡◌, ◌≤◌, length, replicate};
 ghost use Rattle.reading.specs.Read.{ZerosLent, ReadyWithin};
 
@@ -21,12 +23,12 @@ pub struct Read {
     pub length: u64,
 }
 
-// Reads and loads until an image is whole or refused; `More` means that the input can't be read.
-pub fn read_image(store: &mut [u64]) -> Read
+// Reads and loads until an image is whole or refused; `More` means that the input can't be read, which has been told.
+pub fn read_image(rt: &(impl Input + Eprint), store: &mut [u64]) -> Read
     requires { ZerosLent store.old }
     ensures { ReadyWithin result.loaded store.new }
 {
-    let mut buffer = io::large_buffer();
+    let mut buffer = [0u8; 65536];
     let mut x = Loaded {
         loading: loading::nothing_loaded(false),
         outcome: LoadOutcome::More(0),
@@ -36,9 +38,8 @@ pub fn read_image(store: &mut [u64]) -> Read
     // A proved loop has to end, and nothing says that an input does: no input has so many pieces.
     let mut turns = u64::MAX;
     while turns > 0 {
-        let piece = streams::read_piece(&mut buffer, kept);
+        let piece = streams::read_piece(rt, &mut buffer, kept);
         if piece.has_failed {
-            os::fail(b"standard input");
             return Read { loaded: x, length };
         }
         length = std::num::wrapping_add_u64(length, (piece.size - kept) as u64);
@@ -61,18 +62,18 @@ pub fn read_image(store: &mut [u64]) -> Read
 }
 
 // The image on standard input. One that is refused, or can't be read, has been answered, and isn't whole.
-pub fn image_on_input(store: &mut [u64]) -> Image
+pub fn image_on_input(rt: &(impl Input + Print + Eprint), store: &mut [u64]) -> Image
     requires { store.old ≡ replicate 8320 0 }
     ensures { result.words ≤ length store.new }
 {
-    let x = read_image(store);
+    let x = read_image(rt, store);
     let loaded = x.loaded;
     let loading = loaded.loading;
     let outcome = loaded.outcome;
     let registers = loading.registers;
     match outcome {
         LoadOutcome::Refused(n) => {
-            streams::print_refusal(n);
+            streams::print_refusal(rt, n);
             Image {
                 is_whole: false,
                 words: 0,

@@ -1,4 +1,6 @@
 // The laptop's program: an image on standard input, its listing on standard output.
+#![tactic(auto)]
+
 ghost use Rattle.std.specs.Prelude.{◌≡◌};
 ghost use Rattle.model.specs.Questions.{start_questions};
 ghost use Rattle.state.specs.View.{as_machine, as_delivery};
@@ -9,10 +11,17 @@ use listing::Listed;
 use state::{Core, Delivery};
 
 // Prints a run's listing as its steps complete, and stops where nobody reads it any more.
-fn print_listing(delivery: Delivery, core: Core, start: [u16; 24], memory: &mut [u64], budget: u32)
+fn print_listing(
+    rt: &impl Print,
+    delivery: Delivery,
+    core: Core,
+    start: [u16; 24],
+    memory: &mut [u64],
+    budget: u32,
+)
     requires { start_questions (as_delivery delivery) (as_machine core start memory.old) ≡ 0 }
 {
-    let mut text = io::large_buffer();
+    let mut text = [0u8; 65536];
     let mut prs = start;
     let mut x = Listed {
         line: Line {
@@ -36,7 +45,7 @@ fn print_listing(delivery: Delivery, core: Core, start: [u16; 24], memory: &mut 
             &mut text,
         );
         let size = x.line.length;
-        if !streams::print(&text, size) {
+        if !streams::print(rt, &text, size) {
             return;
         }
         if x.line.is_last {
@@ -47,21 +56,21 @@ fn print_listing(delivery: Delivery, core: Core, start: [u16; 24], memory: &mut 
 }
 
 // What an image gave: 1 to 4, then its run.
-fn run_image(registers: Registers, memory: &mut [u64], budget: u32) {
+fn run_image(rt: &impl Print, registers: Registers, memory: &mut [u64], budget: u32) {
     let x = machine::prepare(registers, memory);
     if x.number != 0 {
-        streams::print_refusal(x.number);
+        streams::print_refusal(rt, x.number);
         return;
     }
     let prs = x.prs;
-    print_listing(registers.delivery, x.core, prs, memory, budget);
+    print_listing(rt, registers.delivery, x.core, prs, memory, budget);
 }
 
-fn main() {
+fn main(rt: HostRuntime) {
     let mut store = loading::empty_store();
-    let x = reading::image_on_input(&mut store);
+    let x = reading::image_on_input(&rt, &mut store);
     if x.is_whole {
         let words = x.words;
-        run_image(x.registers, &mut store[..words], x.budget);
+        run_image(&rt, x.registers, &mut store[..words], x.budget);
     }
 }
