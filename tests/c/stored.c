@@ -1,6 +1,6 @@
 /* For tests/command: large stored images, the converter in plain C, and input in small pieces.
  *   stored make COUNT    writes a stored image with so many WDs of random addresses
- *   stored convert       as target/bin/convert
+ *   stored convert       as the program convert
  *   stored pieces SIZE   hands on standard input in pieces of this size, with a pause after each */
 #define _POSIX_C_SOURCE 199309L
 

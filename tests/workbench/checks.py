@@ -11,7 +11,6 @@ from typing import Optional, Sequence
 TOP = Path(__file__).resolve().parent.parent.parent
 COMMAND = str(TOP / "kuzhlemor")
 EXAMPLES = TOP / "examples"
-PROGRAMS = TOP / "target" / "bin"
 LIBRARY = TOP / "target" / "kuzhlemor.so"
 
 _count = 0
@@ -81,8 +80,13 @@ def says(answer: subprocess.CompletedProcess, what: str) -> None:
     check(what in answer.stderr.decode(), f"{answer.args}: standard error says: {answer.stderr.decode()}")
 
 
+def built(name: str) -> Path:
+    """Where rt puts a program."""
+    return TOP / "crates" / name / "out" / name
+
+
 def program(name: str, data: bytes) -> str:
-    return run([PROGRAMS / name], data).stdout.decode()
+    return run([built(name)], data).stdout.decode()
 
 
 def heed_interrupts() -> None:

@@ -12,7 +12,7 @@ from random import Random
 from typing import Callable, Dict, Optional, Tuple
 
 import drawn
-from checks import COMMAND, EXAMPLES, LIBRARY, PROGRAMS, TOP, check, command, heed_interrupts, program, run, says
+from checks import COMMAND, EXAMPLES, LIBRARY, TOP, built, check, command, heed_interrupts, program, run, says
 from ends import ENDS, OTHERS, PLAIN, STARTS
 from kuzhlemor import explain
 from kuzhlemor.assemble import assemble
@@ -136,7 +136,7 @@ def listed_and_explained(data: bytes) -> Tuple[int, str, str]:
             os.dup2(out.fileno(), 1)
             os.dup2(err.fileno(), 2)
             try:
-                status = run_explained(str(path), str(PROGRAMS / "simulate"), str(LIBRARY))
+                status = run_explained(str(path), str(built("simulate")), str(LIBRARY))
             finally:
                 for number, saved in enumerate(kept, 1):
                     os.dup2(saved, number)
@@ -354,7 +354,7 @@ def streams() -> None:
     long = endless[:-4] + (500_000).to_bytes(4, "big")
     answer = run(["sh", "-c", '"$@" | tail -n 1', "sh", COMMAND, "run", "--explain", "-"], long)
     check(answer.stdout == b"spent 500000 0\n" and b"of 500000 steps" in answer.stderr, f"a long listing: {answer}")
-    for simulate, library in (("/none", LIBRARY), (PROGRAMS / "simulate", "/none")):
+    for simulate, library in (("/none", LIBRARY), (built("simulate"), "/none")):
         answer = run(["python3", "-I", "-B", TOP / "tools" / "workbench", "run", EXAMPLES / "blend.img", simulate, library])
         check(answer.returncode == 1 and b"kuzhlemor: what was built can't be used: " in answer.stderr, f"{answer}")
     interrupted(endless)

@@ -13,7 +13,7 @@ from random import Random
 from typing import Dict, List, Sequence
 
 import drawn
-from checks import COMMAND, EXAMPLES, LIBRARY, PROGRAMS, TOP, check, command, fail, heed_interrupts, program, run, says
+from checks import COMMAND, EXAMPLES, LIBRARY, TOP, built, check, command, fail, heed_interrupts, program, run, says
 from kuzhlemor import page as page_module
 from kuzhlemor.assemble import assemble
 from kuzhlemor.calls import Calls, parts
@@ -86,7 +86,7 @@ def image_of(text: str) -> bytes:
 
 
 def page_of(data: bytes, name: str = "an image") -> str:
-    return page(name, data, read_image(data), str(PROGRAMS / "simulate"), library(), lambda text: None)
+    return page(name, data, read_image(data), str(built("simulate")), library(), lambda text: None)
 
 
 def data_of(text: str) -> Dict:
@@ -191,7 +191,7 @@ class Asked:
         with tempfile.TemporaryDirectory() as work:
             answers = Path(work) / "answers"
             flags = ["-std=c11", "-O2", "-Wall", "-Wextra", "-Werror", f"-I{TOP / 'include'}"]
-            archive = TOP / "target/staticlib/libkuzhlemor.a"
+            archive = TOP / "crates/kuzhlemor/out/libkuzhlemor.a"
             built = run(["gcc", *flags, TOP / "tests/workbench/answers.c", archive, "-o", answers])
             check(built.returncode == 0, f"answers.c: {built.stderr.decode()}")
             said = run([answers], "\n".join(self.questions).encode()).stdout.decode().splitlines()
