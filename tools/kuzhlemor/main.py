@@ -166,14 +166,24 @@ def run_explained(path: str, program: str, library: str) -> int:
     data = _read(path, BYTES_READ)
     try:
         proved = Library(library)
-        ran = subprocess.run([program], input=data, stderr=subprocess.PIPE)
+        # The program has no status to tell that nobody reads on, or that a disk is full.
+        written = subprocess.Popen(["cat"], stdin=subprocess.PIPE, stderr=subprocess.DEVNULL)
+        assert written.stdin is not None
+        with written.stdin as to:
+            ran = subprocess.run([program], input=data, stdout=to, stderr=subprocess.PIPE)
+        status = written.wait()
     except OSError as error:
         raise Failed(f"what was built can't be used: {error}") from None
     if ran.stderr:
         raise Failed(ran.stderr.decode("utf-8", "replace").rstrip("\n"))
     if ran.returncode:
-        # By a signal, as where nobody reads on, it is what a shell would give.
+        # By a signal it is what a shell would give.
         return ran.returncode if ran.returncode > 0 else 128 - ran.returncode
+    if status:
+        # As where nobody reads on.
+        if status < 0:
+            return 128 - status
+        raise Failed("the listing couldn't be written")
     return DONE if _note(explanation(read_image(data), proved)) else NO_ANSWER
 
 

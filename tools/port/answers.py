@@ -124,7 +124,7 @@ def paths_turned(text, goal, function, missing):
         return "c." + new + re.sub(r"^\.(given\.1|keys\d*)$", ".is", rest)
 
     # what a match told of its value's numbers is known without a name now
-    text = re.sub(rf"search \(rules, c(?:\.before)*\.(?:known|enum)[_-]told\S*\.given\)", "search rules", text)
+    text = re.sub(r"search \(rules, c(?:\.before)*\.(?:known|enum)[_-]told\S*\.given\)", "search rules", text)
     return re.sub(rf"(?<![^\s(,;\[])c((?:\.before)*)\.({NAME})((?:\.{NAME})*)", path, text)
 
 
@@ -163,7 +163,6 @@ def turn(folder, text, entry):
     function = Function(entry)
     head, uses, blocks = blocks_of(text)
     answers, invariants, helpers, missing, lost = [], [], [], set(), []
-    renamed = {}
     for block in blocks:
         comment = "".join(l + "\n" for l in block.split("\n") if l.startswith("--"))
         body = "\n".join(l for l in block.split("\n") if not l.startswith("--")).strip("\n")

@@ -157,7 +157,7 @@ class Names:
 
     def use_lines(self, file, text):
         def line(match):
-            head, module, names, alias = match[1], match[2], match[3], match[4]
+            head, module, names = match[1], match[2], match[3]
             if names is None:
                 return match[0]
             items = []
@@ -174,7 +174,7 @@ class Names:
 
     def file_turned(self, file):
         out = []
-        for part in re.split(rf"(?m)(^\s*(?:pub |unfoldable |ghost )*use [^\n{{]*(?:\{{[^{{}}]*\}})?[^\n]*\n)", file.text):
+        for part in re.split(r"(?m)(^\s*(?:pub |unfoldable |ghost )*use [^\n{]*(?:\{[^{}]*\})?[^\n]*\n)", file.text):
             if re.match(r"\s*(?:pub |unfoldable |ghost )*use ", part):
                 out.append(self.use_lines(file, part))
             elif file.path.endswith(".rt"):
@@ -224,7 +224,6 @@ def main(arguments):
     for path, file in names.files.items():
         new = names.file_turned(file)
         words = set(re.findall(NAME, re.sub(r"--(?= |$)[^\n]*", "", file.text)))
-        made = set(re.findall(NAME, re.sub(r"--(?= |$)[^\n]*", "", new))) - words
         for name in sorted(file.declared | set(file.imports)):
             to = names.bare(file, name)
             if to != name and to in words:
