@@ -16,7 +16,9 @@ use Rattle.model.specs.Questions.{ask, then_ask, segment_questions, word_questio
 use Rattle.model.specs.Step.{chain}
 use Rattle.segments.specs.Translation.{descriptor_word, word_through}
 use Rattle.addressing.specs.Address.{Descriptors, by_dbr, lent, segment_answer, word_answer, pointer_answer, pointer_leads, Formed, bad, good, or_bad, read_by, through, as_formed, Walked, Addressed}
+use Rattle.std.proofs.Common.{Result}
 use Rattle.addressing.specs.declared.Address.{Address}
+use Rattle.addressing.specs.declared.AddressFault.{AddressFault}
 
 or_bad_no : (k : ℕ) (t : Pointer) (c : ℕ) (x : Formed) → 1 ≤ k → or_bad k t c x ≡ bad k t c
 unfolding or_bad
@@ -66,7 +68,7 @@ module _ (ds es : Descriptors) (m : List ℕ) (e : ds.count ≡ es.count) (f : (
   through_same (suc n) false t = refl
   through_same (suc n) true t = same_once n (through_same n) t _ refl
 
-pub effective_law : (b : Dbr) (m ws : List ℕ) (t : Pointer) (x : Address) → b.address + b.length ≤ length m → ws ≡ take b.length (drop b.address m) →
+pub effective_law : (b : Dbr) (m ws : List ℕ) (t : Pointer) (x : Result Address AddressFault) → b.address + b.length ≤ length m → ws ≡ take b.length (drop b.address m) →
     Walked (lent ws) m t x → Addressed b m t x
 unfolding descriptor_word
 effective_law b m ws t x h e s =
@@ -113,7 +115,7 @@ chain_lands m f (suc left) true t = rw (← answer_by_dbr m t) (landed_after m f
 chain_lands m f (suc left) false t = refl
 
 -- AN OPERAND at the end of a chain
-pub chain_formed : (m : Machine) (t : Pointer) (x : Address) → Addressed m.registers.dbr m.memory t x → (f : Pointer → Program) →
+pub chain_formed : (m : Machine) (t : Pointer) (x : Result Address AddressFault) → Addressed m.registers.dbr m.memory t x → (f : Pointer → Program) →
     execute m (chain 64 true t f) ≡ landed m f (as_formed x)
 chain_formed m t x s f = chain_lands m f 64 true t ∙ ap (landed m f) (sym s.same)
 
@@ -138,6 +140,6 @@ chain_ticks m f none (suc left) h true t =
 nothing_before : (n : ℕ) → n ≡ n + (64 - 64)
 nothing_before n = omega arith
 
-pub chain_counted : (m : Machine) (t : Pointer) (x : Address) → Addressed m.registers.dbr m.memory t x → (f : Pointer → Program) →
+pub chain_counted : (m : Machine) (t : Pointer) (x : Result Address AddressFault) → Addressed m.registers.dbr m.memory t x → (f : Pointer → Program) →
     ((u : Pointer) → ticks m (f u) ≡ 0) → ticks m (chain 64 true t f) ≡ read_by (as_formed x)
 chain_counted m t x s f none = nothing_before _ ∙ chain_ticks m f none 64 (omega arith) true t ∙ ap read_by (sym s.same)

@@ -2,3 +2,4 @@
 pub mod AddressLaws
 pub mod ChainLaws
 pub mod WalkLaws
+pub mod MapErrLaws

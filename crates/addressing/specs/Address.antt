@@ -1,19 +1,18 @@
 -- The effective address by the descriptor segment's words and memory alone, and what forming it answers. Assumes nothing: these are definitions.
-use Rattle.std.specs.Prelude.{◌≡◌, Bool, true, cond, List, ℕ, zero, suc, ◌-◌, ◌<◌, ◌≤◌, ltb, length, get_or}
+use Rattle.std.specs.Prelude.{◌≡◌, Bool, true, cond, List, ℕ, zero, suc, ◌-◌, ◌<◌, ◌≤◌, ltb, length, get_or, Result, Ok, Err}
 use Rattle.model.specs.Words as Words
 use Rattle.model.specs.Words.{descriptor_in, pointer_in, indirect_in}
 use Rattle.model.specs.Registers as Registers
 use Rattle.model.specs.Questions.{ask, then_ask, segment_questions, read_questions}
 use Rattle.model.specs.Step.{next_address}
 use Rattle.words.specs.View.{as_pointer, PointerWithin}
+use Rattle.words.specs.declared.descriptor.Descriptor.{Descriptor}
+use Rattle.questions.specs.declared.fault.Fault.{Fault}
+use Rattle.questions.specs.Numbers.{fault_number}
 use Rattle.segments.specs.Translation.{descriptor_word, descriptor_answer, word_through}
-use Rattle.segments.specs.declared.translate.Translated.{Translated}
-use Rattle.segments.specs.declared.translate.Translated.TheVariants as Translated
 use Rattle.addressing.specs.declared.Address.{Address}
-use Rattle.addressing.specs.declared.Address.TheVariants.{Bad, Good}
+use Rattle.addressing.specs.declared.AddressFault.{AddressFault}
 use Rattle.addressing.specs.declared.Kept.{Kept}
-use Rattle.addressing.specs.declared.Found.{Found}
-use Rattle.addressing.specs.declared.Found.TheVariants as Found
 
 -- DESCRIPTORS: how many there are, and each one's word. By DBR they lie in memory; a walk is lent their own words
 pub record Descriptors : Type 0 where
@@ -61,19 +60,19 @@ through (suc n) i ds m t =
     let next = through n (indirect_in (word_through m d t.word)) ds m (pointer_leads d m t) in
     cond i (or_bad (pointer_answer ds.count d m t) t (64 - suc n) next) (good t (64 - suc n))
 
-abbrev pub as_formed : Address → Formed
-as_formed (Bad n t c) = bad n (as_pointer t) c
-as_formed (Good t c) = good (as_pointer t) c
+abbrev pub as_formed : Result Address AddressFault → Formed
+as_formed (Err f) = bad (fault_number f.fault) (as_pointer f.pointer) f.read
+as_formed (Ok a) = good (as_pointer a.pointer) a.read
 
-abbrev pub AddressWithin : Address → Type 0
-AddressWithin (Bad n t c) = Unit {0}
-AddressWithin (Good t c) = PointerWithin t
+abbrev pub AddressWithin : Result Address AddressFault → Type 0
+AddressWithin (Err f) = Unit {0}
+AddressWithin (Ok a) = PointerWithin a.pointer
 
-pub record Walked (ds : Descriptors) (m : List ℕ) (t : Words.Pointer) (x : Address) : Type 0 where
+pub record Walked (ds : Descriptors) (m : List ℕ) (t : Words.Pointer) (x : Result Address AddressFault) : Type 0 where
   pub same : as_formed x ≡ through 64 true ds m t
   pub within : AddressWithin x
 
-abbrev pub Addressed : Registers.Dbr → (memory : List ℕ) → Words.Pointer → Address → Type 0
+abbrev pub Addressed : Registers.Dbr → (memory : List ℕ) → Words.Pointer → Result Address AddressFault → Type 0
 Addressed b m t x = Walked (by_dbr b m) m t x
 
 -- ON THE WAY: TPR is a pointer word and a ring
@@ -86,16 +85,21 @@ pub record Right (words : List ℕ) (size segment descriptor : ℕ) : Type 0 whe
   pub same : descriptor ≡ get_or words segment 0
   pub passes : descriptor_answer size descriptor ≡ 0
 
-abbrev pub looked : (words : List ℕ) → (size segment : ℕ) → Translated → Type 0
-looked ws n s (Translated.Refused k) = (segment_answer (length ws) n s (get_or ws s 0) ≡ k) × (1 ≤ k)
-looked ws n s (Translated.Passed d) = Right ws n s d.0
+abbrev pub looked : (words : List ℕ) → (size segment : ℕ) → Result Descriptor Fault → Type 0
+looked ws n s (Err e) = segment_answer (length ws) n s (get_or ws s 0) ≡ fault_number e
+looked ws n s (Ok d) = Right ws n s d.0
 
 -- what is kept has passed, where it is a segment's at all
 pub record KeptRight (words : List ℕ) (size : ℕ) (k : Kept) : Type 0 where
-  pub first : k.segment ≤ 4095 → Right words size k.segment k.descriptor.0
-  pub second : k.other ≤ 4095 → Right words size k.other k.others_descriptor.0
+  pub first : k.first.number ≤ 4095 → Right words size k.first.number k.first.descriptor.0
+  pub second : k.second.number ≤ 4095 → Right words size k.second.number k.second.descriptor.0
 
 -- and then the segment asked for is first
-abbrev pub found : (words : List ℕ) → (size segment : ℕ) → Found → Type 0
-found ws n s (Found.Refused k) = (segment_answer (length ws) n s (get_or ws s 0) ≡ k) × (1 ≤ k)
-found ws n s (Found.Passed k) = Right ws n s k.descriptor.0 × KeptRight ws n k
+abbrev pub found : (words : List ℕ) → (size segment : ℕ) → Result Kept Fault → Type 0
+found ws n s (Err e) = segment_answer (length ws) n s (get_or ws s 0) ≡ fault_number e
+found ws n s (Ok k) = Right ws n s k.first.descriptor.0 × KeptRight ws n k
+
+-- 15 and 22 have passed as well
+abbrev pub asked : (words : List ℕ) → (size : ℕ) → Words.Pointer → Result Kept Fault → Type 0
+asked ws n t (Err e) = then_ask (segment_answer (length ws) n t.segment (get_or ws t.segment 0)) (word_answer t (descriptor_in (get_or ws t.segment 0))) ≡ fault_number e
+asked ws n t (Ok k) = Right ws n t.segment k.first.descriptor.0 × (word_answer t (descriptor_in k.first.descriptor.0) ≡ 0) × KeptRight ws n k

@@ -6,36 +6,45 @@ ghost use Rattle.model.specs.Words.{instruction_in, descriptor_in};
 ghost use Rattle.model.specs.Questions.{all, pointer_in_range};
 ghost use Rattle.model.specs.Step as Step;
 ghost use Rattle.words.specs.View.{as_pointer, PointerWithin};
+ghost use Rattle.questions.specs.Numbers.{fault_number, number_by};
 ghost use Rattle.segments.specs.Translation.{as_dbr};
 ghost use Rattle.state.specs.View.{as_pointers, as_registers};
-ghost use Rattle.addressing.specs.Address.{lent, tpr_of, KeptRight, looked, found, word_answer, Walked, Addressed};
+ghost use Rattle.addressing.specs.Address.{lent, tpr_of, KeptRight, looked, found, word_answer, asked, Walked, Addressed};
 
-use segments::translate::{Dbr, Translated};
+use questions::answer;
+use questions::fault::Fault;
+use segments::translate::{Dbr, descriptor_answer};
 use state::Core;
 use words::descriptor::Descriptor;
 use words::pointer::Pointer;
 
-// A fault with its pointer, or TPR; and how many pointer words were read.
+// TPR, and how many pointer words were read.
 #[derive(Clone, Copy)]
-pub enum Address {
-    Bad(u8, Pointer, u64),
-    Good(Pointer, u64),
+pub struct Address {
+    pub pointer: Pointer,
+    pub read: u64,
 }
 
-// The two segments last used, whose descriptors have passed 11 to 14, the later first; 4,096 is none.
+// A fault with its pointer, and how many pointer words were read before it.
+#[derive(Clone, Copy)]
+pub struct AddressFault {
+    pub fault: Fault,
+    pub pointer: Pointer,
+    pub read: u64,
+}
+
+// A segment whose descriptor has passed 11 to 14; number 4,096 is none.
+#[derive(Clone, Copy)]
+struct PassedSegment {
+    number: u64,
+    descriptor: Descriptor,
+}
+
+// The two segments last used, the later first.
 #[derive(Clone, Copy)]
 struct Kept {
-    segment: u64,
-    descriptor: Descriptor,
-    other: u64,
-    others_descriptor: Descriptor,
-}
-
-// The first no of 11 to 14, or what is kept, with the segment asked for first.
-#[derive(Clone, Copy)]
-enum Found {
-    Refused(u8),
-    Passed(Kept),
+    first: PassedSegment,
+    second: PassedSegment,
 }
 
 // TPR where a pointer word leads in a ring: its own ring is left out.
@@ -43,9 +52,8 @@ fn tpr(word: u64, ring: u64) -> Pointer
     requires { ring ≤ 7 }
     ensures { (as_pointer result ≡ tpr_of word ring) × PointerWithin result }
 {
-    let mut p = words::pointer::decode(word);
-    p.ring = ring;
-    p
+    let p = words::pointer::decode(word);
+    Pointer { ring, ..p }
 }
 
 // The ring through a pointer word read at `t`: the largest of the three.
@@ -55,7 +63,7 @@ fn next_ring(t: Pointer, d: Descriptor, w: u64) -> u64
 {
     let p = words::pointer::decode(w);
     let r1 = words::descriptor::r1_of(d);
-    state::larger(state::larger(t.ring, r1), p.ring)
+    t.ring.max(r1).max(p.ring)
 }
 
 // The descriptor segment's own words.
@@ -69,108 +77,109 @@ fn descriptors_of(dbr: Dbr, memory: &[u64]) -> &[u64]
 }
 
 // 11 to 14 of a segment, asked of its descriptor in a memory of so many words.
-fn look(descriptors: &[u64], words: usize, segment: u64) -> Translated
+#[tactic(auto, using(crate::proofs::WalkLaws::look_11))]
+fn look(descriptors: &[u64], words: usize, segment: u64) -> Result<Descriptor, Fault>
     ensures { looked descriptors.now words segment result }
 {
     let i = segment as usize;
-    if descriptors.len() <= i {
-        return Translated::Refused(11);
-    }
+    answer(i < descriptors.len(), Fault::NoDescriptor)?;
     let d = Descriptor(descriptors[i]);
-    let n = segments::translate::descriptor_answer(d, words);
-    if n != 0 {
-        return Translated::Refused(n);
-    }
-    Translated::Passed(d)
+    descriptor_answer(d, words)?;
+    Ok(d)
 }
 
 // A segment put first; the one that was first is kept after it.
-fn with_first(kept: Kept, segment: u64, descriptor: Descriptor) -> Kept
-    ensures { result ≡ record { segment = segment; descriptor = descriptor; other = kept.segment; others_descriptor = kept.descriptor } }
+fn with_first(kept: Kept, segment: PassedSegment) -> Kept
+    ensures { result ≡ record { first = segment; second = kept.first } }
 {
-    let others_descriptor = kept.descriptor;
     Kept {
-        segment,
-        descriptor,
-        other: kept.segment,
-        others_descriptor,
+        first: segment,
+        second: kept.first,
     }
 }
 
 // 11 to 14 of a segment. They aren't asked again of one that is kept: nothing is written along a chain.
-fn find(descriptors: &[u64], words: usize, kept: Kept, segment: u64) -> Found
+fn find(descriptors: &[u64], words: usize, kept: Kept, segment: u64) -> Result<Kept, Fault>
     requires { (segment ≤ 4095) × KeptRight descriptors.now words kept }
     ensures { found descriptors.now words segment result }
 {
-    if segment == kept.segment {
-        return Found::Passed(kept);
+    if segment == kept.first.number {
+        return Ok(kept);
     }
-    if segment == kept.other {
-        let d = kept.others_descriptor;
-        return Found::Passed(with_first(kept, segment, d));
+    if segment == kept.second.number {
+        return Ok(with_first(kept, kept.second));
     }
-    match look(descriptors, words, segment) {
-        Translated::Refused(n) => Found::Refused(n),
-        Translated::Passed(d) => Found::Passed(with_first(kept, segment, d)),
-    }
+    let descriptor = look(descriptors, words, segment)?;
+    let last = PassedSegment {
+        number: segment,
+        descriptor,
+    };
+    Ok(with_first(kept, last))
 }
 
-// 15 and 22, of a descriptor that has passed; 0 is a yes to all.
-fn word_answer(d: Descriptor, t: Pointer) -> u8
-    ensures { result ≡ word_answer (as_pointer t) (descriptor_in d.0) }
+// 15 and 22, of a descriptor that has passed.
+#[tactic(auto, unfolding(crate::specs::Address::word_answer, model::specs::Questions::read_questions, model::specs::Questions::ask))]
+fn word_answer(d: Descriptor, t: Pointer) -> Result<(), Fault>
+    ensures { number_by fault_number result ≡ word_answer (as_pointer t) (descriptor_in d.0) }
 {
-    if words::descriptor::length_of(d) <= t.word.0 {
-        return 15;
-    }
-    if !questions::is_readable(d, t) {
-        return 22;
-    }
-    0
+    answer(
+        t.word.0 < words::descriptor::length_of(d),
+        Fault::WordOutsideSegment,
+    )?;
+    answer(questions::is_readable(d, t), Fault::NotReadable)
 }
 
-// Through pointer words, while I is on; 31 is asked first. From turn to turn the pointer word itself is carried, and the ring.
-fn walk(descriptors: &[u64], memory: &[u64], first: Pointer) -> Address
+// 11 to 15 and 22 of a pointer word at `t`; its segment is kept first then.
+fn ask(descriptors: &[u64], words: usize, kept: Kept, t: Pointer) -> Result<Kept, Fault>
+    requires { PointerWithin t × KeptRight descriptors.now words kept }
+    ensures { asked descriptors.now words (as_pointer t) result }
+{
+    let kept = find(descriptors, words, kept, t.segment.0)?;
+    word_answer(kept.first.descriptor, t)?;
+    Ok(kept)
+}
+
+// Through pointer words, the first at `first`, while I is on. From turn to turn the pointer word itself is carried, and the ring.
+fn walk(descriptors: &[u64], memory: &[u64], first: Pointer) -> Result<Address, AddressFault>
     requires { PointerWithin first }
     ensures { Walked (lent descriptors.now) memory.now (as_pointer first) result }
 {
-    let mut left: u64 = 64;
-    let mut more = true;
     let mut word = words::pointer::encode(first);
     let mut ring = first.ring;
-    let mut kept = Kept {
-        segment: 4096,
+    let none = PassedSegment {
+        number: 4096,
         descriptor: Descriptor(0),
-        other: 4096,
-        others_descriptor: Descriptor(0),
     };
-    while more {
+    let mut kept = Kept {
+        first: none,
+        second: none,
+    };
+    for read in 0..64 {
         let t = tpr(word, ring);
-        if left == 0 {
-            return Address::Bad(31, t, 64);
+        kept = ask(descriptors, memory.len(), kept, t).map_err(move |fault| AddressFault {
+            fault,
+            pointer: t,
+            read,
+        })?;
+        let d = kept.first.descriptor;
+        word = segments::segment::read(memory, d, t.word);
+        ring = next_ring(t, d, word);
+        if !words::pointer::is_indirect(word) {
+            return Ok(Address {
+                pointer: tpr(word, ring),
+                read: read + 1,
+            });
         }
-        match find(descriptors, memory.len(), kept, t.segment.0) {
-            Found::Refused(n) => {
-                return Address::Bad(n, t, 64 - left);
-            }
-            Found::Passed(k) => {
-                let d = k.descriptor;
-                let n = word_answer(d, t);
-                if n != 0 {
-                    return Address::Bad(n, t, 64 - left);
-                }
-                word = segments::segment::read(memory, d, t.word);
-                ring = next_ring(t, d, word);
-                kept = k;
-                more = words::pointer::is_indirect(word);
-            }
-        }
-        left -= 1;
     }
-    Address::Good(tpr(word, ring), 64 - left)
+    Err(AddressFault {
+        fault: Fault::TooManyPointerWords,
+        pointer: tpr(word, ring),
+        read: 64,
+    })
 }
 
 // TPR by way of pointer words. Where the descriptor segment lies and ends is worked out once.
-pub fn effective(dbr: Dbr, memory: &[u64], first: Pointer) -> Address
+pub fn effective(dbr: Dbr, memory: &[u64], first: Pointer) -> Result<Address, AddressFault>
     requires { (dbr.address + dbr.length ≤ length memory.now) × PointerWithin first }
     ensures { Addressed (as_dbr dbr) memory.now (as_pointer first) result }
 {
@@ -187,7 +196,7 @@ pub fn first_address(core: Core, prs: &[u16; 24], w: u64) -> Pointer
     if !words::instruction::is_by_pr(w) {
         return state::moved(ipr, by);
     }
-    let mut p = state::prs::pr(prs, words::instruction::prnum(w));
-    p.ring = state::larger(ipr.ring, p.ring);
-    state::moved(p, by)
+    let p = state::prs::pr(prs, words::instruction::prnum(w));
+    let ring = ipr.ring.max(p.ring);
+    state::moved(Pointer { ring, ..p }, by)
 }

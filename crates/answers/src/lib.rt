@@ -3,18 +3,35 @@
 
 ghost use Rattle.std.specs.Prelude.{◌≡◌};
 ghost use Rattle.state.specs.Reply.{ReplyWithin};
-ghost use Rattle.answers.specs.Answer.{AnswersWith, AnswerFits, Replies};
+ghost use Rattle.answers.specs.Answer.{kind_number, AnswersWith, AnswerFits, Replies};
 
 use state::Core;
 use state::reply::Reply;
-use words::pointer::{Pointer, SegmentNumber, WordNumber};
+use words::pointer::Pointer;
 
-// An answer as numbers, and the core after it. Kinds: 0 refused, 1 spent or completed, 2 halted, 3 fault; what a kind leaves
-// free is 0. Numbers that C gets side by side stand apart here: else the compiler loads both at once where they were stored one
-// by one just before, and waits for it.
+// The sort of an answer. As a number, what C gets.
+#[derive(Clone, Copy, PartialEq, Eq)]
+pub enum Kind {
+    Refused = 0,
+    Spent = 1,
+    Halted = 2,
+    Fault = 3,
+}
+
+impl From<Kind> for u32 {
+    ghost from_gives = { λ kind n. n ≡ kind_number kind };
+
+    fn from(kind: Kind) -> u32 {
+        kind as u32
+    }
+}
+
+// An answer as numbers, and the core after it; what a kind leaves free is 0. A single step is spent where it completes. Numbers that C
+// gets side by side stand apart here: else the compiler loads both at once where they were stored one by one just before, and waits
+// for it.
 #[derive(Clone, Copy)]
 pub struct Answered {
-    pub kind: u64,
+    pub kind: Kind,
     pub core: Core,
     pub number: u64,
     pub pointer: Pointer,
@@ -22,52 +39,39 @@ pub struct Answered {
     pub pointers: u64,
 }
 
-fn no_pointer() -> Pointer
-    ensures { result ≡ record { ring = 0; segment = record { 0 = 0 }; word = record { 0 = 0 } } }
-{
-    Pointer {
-        ring: 0,
-        segment: SegmentNumber(0),
-        word: WordNumber(0),
-    }
-}
-
 pub fn answer_of(reply: Reply, core: Core, pointers: u64) -> Answered
     requires { ReplyWithin reply }
     ensures { AnswersWith reply core pointers result }
 {
+    let free = Answered {
+        kind: Kind::Refused,
+        core,
+        number: 0,
+        pointer: Pointer::default(),
+        count: 0,
+        pointers,
+    };
     match reply {
         Reply::Refused(n) => Answered {
-            kind: 0,
-            core,
             number: n as u64,
-            pointer: no_pointer(),
-            count: 0,
-            pointers,
+            ..free
         },
         Reply::Spent(count) => Answered {
-            kind: 1,
-            core,
-            number: 0,
-            pointer: no_pointer(),
+            kind: Kind::Spent,
             count: count as u64,
-            pointers,
+            ..free
         },
         Reply::Halted(count) => Answered {
-            kind: 2,
-            core,
-            number: 0,
-            pointer: no_pointer(),
+            kind: Kind::Halted,
             count: count as u64,
-            pointers,
+            ..free
         },
-        Reply::Fault(n, count, t) => Answered {
-            kind: 3,
-            core,
+        Reply::Fault(n, count, pointer) => Answered {
+            kind: Kind::Fault,
             number: n as u64,
-            pointer: t,
+            pointer,
             count: count as u64,
-            pointers,
+            ..free
         },
     }
 }
@@ -77,12 +81,10 @@ pub fn reply_of(x: Answered) -> Reply
     requires { AnswerFits x }
     ensures { Replies x result }
 {
-    let kind = x.kind;
-    let t = x.pointer;
-    match kind {
-        0 => Reply::Refused(x.number as u8),
-        1 => Reply::Spent(x.count as u32),
-        2 => Reply::Halted(x.count as u32),
-        _ => Reply::Fault(x.number as u8, x.count as u32, t),
+    match x.kind {
+        Kind::Refused => Reply::Refused(x.number as u8),
+        Kind::Spent => Reply::Spent(x.count as u32),
+        Kind::Halted => Reply::Halted(x.count as u32),
+        Kind::Fault => Reply::Fault(x.number as u8, x.count as u32, x.pointer),
     }
 }

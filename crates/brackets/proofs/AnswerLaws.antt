@@ -15,22 +15,17 @@ use Rattle.model.specs.Listing.{refusal_line, last_line}
 use Rattle.model.specs.Write.{written_image}
 use Rattle.model.specs.Brackets.{Row, Bracketed, set_brackets, bracketed_text, image_bracketed, row_at}
 use Rattle.formats.proofs.ImageLaws.{checked_refused, checked_passed}
+use Rattle.questions.specs.Numbers.{start_number}
+use Rattle.questions.specs.declared.start.StartError.{StartError}
+use Rattle.questions.specs.declared.start.StartError.TheVariants as StartError
 use Rattle.host.specs.Record.{machine_of, delivery_of}
 use Rattle.host.specs.declared.record.Registers.{Registers}
-use Rattle.tables.specs.View.{as_row, base}
+use Rattle.tables.specs.View.{base}
 use Rattle.brackets.specs.Printed.{Printed}
 
 -- THE FRONT of what is lent is no longer than all of it
 pub front_at_most : (n : ℕ) (xs : List ℕ) {k : ℕ} → n ≤ length xs → length xs ≡ k → length (take n xs) ≤ k
 front_at_most n xs h e = omega (arith, length-take-le n xs h)
-
--- A ROW
-pub row_from : (bs : List ℕ) (a b c d e : ℕ) → a ≡ number_at 0 2 bs → b ≡ number_at 2 2 bs → (c % 256 ≡ number_at 4 1 bs) × (c / 256 ≡ number_at 5 1 bs) →
-    (d % 256 ≡ number_at 6 1 bs) × (d / 256 ≡ number_at 7 1 bs) → (e % 256 ≡ number_at 8 1 bs) × (e / 256 ≡ number_at 9 1 bs) →
-    as_row (a ∷ b ∷ c ∷ d ∷ e ∷ []) ≡ row_at 0 bs
-unfolding as_row row_at
-row_from bs a b c d e p q r s t =
-    λ i. record { first = p i; last = q i; r1 = r.0 i; r2 = r.1 i; r3 = s.0 i; read = s.1 i; write = t.0 i; execute = t.1 i }
 
 -- A REFUSAL is a listing's last line
 pub refusal_is_last_line : (n : ℕ) → last_line (refused n) 0 ≡ refusal_line n
@@ -39,6 +34,12 @@ refusal_is_last_line n = refl
 
 pub printed_as : {s z : List ℕ} (t u : List ℕ) (n : ℕ) → s ≡ z → Printed s t u n → Printed z t u n
 printed_as t u n e p = subst (λ x. Printed x t u n) e p
+
+pub start_not_0 : (e : StartError) → start_number e ≡ 0 → ⊥
+start_not_0 StartError.MemoryTooLarge z = omega (arith, z)
+start_not_0 StartError.OutOfRange z = omega (arith, z)
+start_not_0 StartError.RingsBelow z = omega (arith, z)
+start_not_0 StartError.BaseOutsideMemory z = omega (arith, z)
 
 -- THE ANSWER: of 1 to 4, of the table, or the image
 module _ (r : Registers) (m : List ℕ) (b : ℕ) (rows : List Row) (n : ℕ) (e : n ≡ start_questions (delivery_of r) (machine_of r m)) where

@@ -4,41 +4,20 @@
 ghost use Rattle.std.specs.Prelude.{◌≡◌, ◌+◌, ◌≤◌, length};
 ghost use Rattle.buffers.specs.Move.{bytes_moved, cleared};
 
-// `size` bytes at `from` go towards the front, to `to`; all others stay.
-pub fn move_down(buffer: &mut [u8], from: usize, to: usize, size: usize)
-    requires { (to ≤ from) × (from + size ≤ length buffer.old) }
+// `size` bytes at `from` go to `to`, which may overlap; all others stay.
+#[tactic(auto, unfolding(crate::specs::Move::bytes_moved))]
+pub fn move_bytes(buffer: &mut [u8], from: usize, to: usize, size: usize)
+    requires { (from + size ≤ length buffer.old) × (to + size ≤ length buffer.old) }
     ensures { buffer.new ≡ bytes_moved from to size buffer.old }
 {
-    if from == to {
-        return;
-    }
-    let mut i = 0;
-    while i < size {
-        buffer[to + i] = buffer[from + i];
-        i += 1;
-    }
-}
-
-// `size` bytes at `from` go towards the end, to `to`, the last of them first; all others stay.
-pub fn move_up(buffer: &mut [u8], from: usize, to: usize, size: usize)
-    requires { (from ≤ to) × (to + size ≤ length buffer.old) }
-    ensures { buffer.new ≡ bytes_moved from to size buffer.old }
-{
-    let mut left = size;
-    while left > 0 {
-        left -= 1;
-        buffer[to + left] = buffer[from + left];
-    }
+    buffer.copy_within(from..from + size, to);
 }
 
 // `size` bytes at `at` become zero.
+#[tactic(auto, unfolding(crate::specs::Move::cleared))]
 pub fn clear(buffer: &mut [u8], at: usize, size: usize)
     requires { at + size ≤ length buffer.old }
     ensures { buffer.new ≡ cleared at size buffer.old }
 {
-    let mut k = 0;
-    while k < size {
-        buffer[at + k] = 0;
-        k += 1;
-    }
+    buffer[at..at + size].fill(0);
 }

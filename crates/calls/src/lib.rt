@@ -1,22 +1,19 @@
 // What a call on bytes answers: one signed number.
 #![tactic(auto)]
 
-ghost use Rattle.std.specs.Prelude.{◌≡◌, ◌<◌, ◌^◌};
-ghost use Rattle.calls.specs.Call.{as_answer};
+ghost use Rattle.calls.specs.Call.{LengthFits, SignedAs};
 
-// The number of the question that refused, or 0 and how many bytes were written.
-#[derive(Clone, Copy)]
-pub struct Called {
-    pub number: u8,
-    pub length: usize,
-}
-
-pub fn signed(x: Called) -> i64
-    requires { x.length < 2 ^ 63 }
-    ensures { result ≡ as_answer x }
+// How many bytes were written, or the number of the question that refused, negated.
+#[tactic(auto, using(crate::proofs::CallLaws::signs))]
+pub fn signed<E: Into<u8>>(written: Result<usize, E>) -> i64
+    requires { LengthFits written }
+    ensures { SignedAs E.converts written result }
 {
-    if x.number != 0 {
-        return -(x.number as i64);
+    match written {
+        Ok(length) => length as i64,
+        Err(error) => {
+            let number: u8 = error.into();
+            -(number as i64)
+        }
     }
-    x.length as i64
 }

@@ -12,7 +12,6 @@ use Rattle.model.specs.Run.{unless_refused}
 use Rattle.model.specs.Check as Check
 use Rattle.model.proofs.QuestionLaws.{ask_yes}
 use Rattle.words.specs.View.{as_pointer, PointerWithin}
-use Rattle.words.specs.declared.descriptor.Descriptor.{Descriptor}
 use Rattle.words.specs.declared.pointer.Pointer.{Pointer}
 use Rattle.state.specs.View.{as_machine}
 use Rattle.state.specs.declared.Core.{Core}
@@ -20,9 +19,17 @@ use Rattle.state.proofs.PassingLaws.{pointer_passing, ipr_passing, ready_passing
 use Rattle.host.specs.Record.{machine_of, delivery_of, Converted}
 use Rattle.host.specs.declared.record.Registers.{Registers}
 use Rattle.control.specs.Call.{CheckedBy}
-use Rattle.control.specs.declared.Checked.{Checked}
-use Rattle.control.specs.declared.Checked.TheVariants.{Bad, Ring}
+use Rattle.control.specs.declared.Entry.{Entry}
+use Rattle.questions.specs.declared.fault.Fault.{Fault}
+use Rattle.questions.specs.declared.start.StartError.{StartError}
+use Rattle.questions.specs.Numbers.{fault_number, start_number}
+use Rattle.std.proofs.Common.{Result, Ok, Err}
 use Rattle.control.proofs.MoveLaws.{check_faults, check_passes}
+
+-- no refused start's number is 0, which is a yes
+pub start_from_one : (e : StartError) → 1 ≤ start_number e
+start_from_one StartError.MemoryTooLarge = omega arith
+start_from_one e = omega arith
 
 -- the pointer's ring raised
 module _ (p : Pointer) (n k : ℕ) (e : k ≡ max n p.ring) where
@@ -68,15 +75,15 @@ module _ (r : Registers) (c : Core) (w : Converted r c) (memory : List ℕ) (p :
     unfolding Check.check unless_refused
     goes_on = ap (λ a. unless_refused a Check.refused (Check.checked m (with_ring_at_least c.ipr.ring (as_pointer p)))) (sym e ∙ z)
 
-    module _ (x : Checked) (t : Words.Pointer) (g : t ≡ with_ring_at_least c.ipr.ring (as_pointer p)) (s : CheckedBy m.registers.dbr memory m.registers.ipr t x) where
+    module _ (x : Result Entry Fault) (t : Words.Pointer) (g : t ≡ with_ring_at_least c.ipr.ring (as_pointer p)) (s : CheckedBy m.registers.dbr memory m.registers.ipr t x) where
       raised_on : Check.checked m t ≡ Check.check (delivery_of r) (machine_of r memory) (as_pointer p)
       raised_on = ap (Check.checked m) g ∙ sym goes_on ∙ of_record
 
-      pub says_fault : (k : ℕ) → x ≡ Bad k → Check.fault k t ≡ Check.check (delivery_of r) (machine_of r memory) (as_pointer p)
-      says_fault k f = sym (check_faults m t k (rw f at s)) ∙ raised_on
+      pub says_fault : (e : Fault) → x ≡ Err e → Check.fault (fault_number e) t ≡ Check.check (delivery_of r) (machine_of r memory) (as_pointer p)
+      says_fault e f = sym (check_faults m t e (rw f at s)) ∙ raised_on
 
-      pub says_passes : (d : Descriptor) (k : ℕ) → x ≡ Ring d k → Check.passes k ≡ Check.check (delivery_of r) (machine_of r memory) (as_pointer p)
-      says_passes d k f = sym (check_passes m t d k (rw f at s)) ∙ raised_on
+      pub says_passes : (k : Entry) → x ≡ Ok k → Check.passes k.ring ≡ Check.check (delivery_of r) (machine_of r memory) (as_pointer p)
+      says_passes k f = sym (check_passes m t k (rw f at s)) ∙ raised_on
 
-      pub ring_passed : (d : Descriptor) (k : ℕ) → x ≡ Ring d k → k ≤ 7
-      ring_passed d k f = (rw f at s).2
+      pub ring_passed : (k : Entry) → x ≡ Ok k → k.ring ≤ 7
+      ring_passed k f = (rw f at s).2

@@ -9,7 +9,6 @@ ghost use Rattle.words.specs.View.{as_pointer, PointerWithin};
 ghost use Rattle.host.specs.Record.{pointer_of, machine_of, delivery_of};
 ghost use Rattle.checks.specs.View.{as_check, VerdictWithin, as_numbers};
 
-use control::Checked;
 use host::record::Registers;
 use words::pointer::{Pointer, SegmentNumber, WordNumber};
 
@@ -30,9 +29,8 @@ fn raised(p: Pointer, ring: u64) -> Pointer
     requires { PointerWithin p × (ring ≤ 7) }
     ensures { (as_pointer result ≡ with_ring_at_least ring (as_pointer p)) × PointerWithin result }
 {
-    let mut q = p;
-    q.ring = state::larger(ring, p.ring);
-    q
+    let ring = ring.max(p.ring);
+    Pointer { ring, ..p }
 }
 
 // 1 to 4, the pointer under 2 as well; then 11 to 15 and 26 to 30 of the pointer, its ring raised.
@@ -46,14 +44,14 @@ pub fn ask(registers: Registers, memory: &[u64], ring: u8, segment: u16, word: u
         segment: SegmentNumber(segment as u64),
         word: WordNumber(word as u64),
     };
-    let n = host::start::check_answer(registers.delivery, p, core, &prs, memory);
-    if n != 0 {
-        return Verdict::Refused(n);
+    let start = host::start::check_answer(registers.delivery, p, core, &prs, memory);
+    if let Err(error) = start {
+        return Verdict::Refused(error.number());
     }
     let t = raised(p, core.ipr.ring);
     match control::check(core.dbr, memory, core.ipr, t) {
-        Checked::Bad(k) => Verdict::Fault(k, t),
-        Checked::Ring(_d, new) => Verdict::Passes(new),
+        Err(fault) => Verdict::Fault(fault.number(), t),
+        Ok(entry) => Verdict::Passes(entry.ring),
     }
 }
 

@@ -7,7 +7,7 @@ use native.Mathlib.Nat.{add-zero, add_assoc}
 use native.Mathlib.Numerals.{add-one}
 use native.Mathlib.Omega.{arith}
 use lib.ListN.{length, take, drop, get_or, length-append, length-map}
-use lib.Seq.{take_at, drop_at, take-suc, length-take-le}
+use lib.Seq.{take_at, take_all, drop_at, take-suc, length-take-le}
 use Rattle.model.specs.Words.{Pointer}
 use Rattle.model.specs.Registers.{Delivery, Machine}
 use Rattle.model.specs.Answers.{Numbers, reply_numbers}
@@ -210,12 +210,11 @@ module _ (dv : Delivery) where
       on (halts k) f = (pointer_words_within m, tt)
       on (completes k) f = (pointer_words_within m, f k)
 
-pub few_at : (l : List ℕ) (n i : ℕ) → Few (noted_steps (take n l)) → i < n → n ≤ length l → get_or l i 0 / 4294967296 ≤ 64
+pub few_at : (l : List ℕ) (i : ℕ) → Few (noted_steps l) → i < length l → get_or l i 0 / 4294967296 ≤ 64
 unfolding Few step_in
-few_at l zero i f h k = absurd (omega arith)
-few_at [] (suc n) i f h k = absurd (omega arith)
-few_at (w ∷ l) (suc n) zero f h k = f.0
-few_at (w ∷ l) (suc n) (suc i) f h k = few_at l n i f.1 (omega arith) (omega arith)
+few_at [] i f h = absurd (omega arith)
+few_at (w ∷ l) zero f h = f.0
+few_at (w ∷ l) (suc i) f h = few_at l i f.1 (omega arith)
 
 -- THE STEPS' LINES, one after another from their trace
 module _ (w v a : ℕ) (p : Code.Pointer) (e : DecodedPointer w p) where
@@ -270,12 +269,11 @@ module _ (a c : ℕ) (l : List ℕ) where
           put_after a r s (step_lines c (noted_steps (take i l))) (step_line v (step_in (get_or l i 0))) t u w f q o g (omega arith)
           ∙ ap (λ z. placed a z t) with_line
 
-    pub every_line_long : (n : ℕ) → i ≤ n → n ≤ i → r ≡ a + length (step_lines c (noted_steps (take n l)))
-    every_line_long n h k = q ∙ ap (λ z. a + length (step_lines c (noted_steps (take z l)))) (let y : i ≡ n = omega arith in y)
+    pub every_line_long : length l ≤ i → r ≡ a + length (step_lines c (noted_steps l))
+    every_line_long h = q ∙ ap (λ xs. a + length (step_lines c (noted_steps xs))) (take_all i l h)
 
-  pub every_line_put : (i n : ℕ) (t u : List ℕ) → u ≡ placed a (step_lines c (noted_steps (take i l))) t → i ≤ n → n ≤ i →
-      u ≡ placed a (step_lines c (noted_steps (take n l))) t
-  every_line_put i n t u f h k = f ∙ ap (λ z. placed a (step_lines c (noted_steps (take z l))) t) (let y : i ≡ n = omega arith in y)
+  pub every_line_put : (i : ℕ) (t u : List ℕ) → u ≡ placed a (step_lines c (noted_steps (take i l))) t → length l ≤ i → u ≡ placed a (step_lines c (noted_steps l)) t
+  every_line_put i t u f h = f ∙ ap (λ xs. placed a (step_lines c (noted_steps xs)) t) (take_all i l h)
 
 pub ruleset lines_of_steps = (few_at, no_line_put, no_line_long, every_line_long, every_line_put)
 
@@ -358,9 +356,6 @@ module _ (y : Reply) (c s : ℕ) where
   fault_within n d t w f = subst ReplyWithin f w
 
   module _ (z : Reply) (f : y ≡ z) where
-    pub ending_known : (b : Bool) → b ≡ ends_run z → b ≡ ends_run y
-    ending_known b g = g ∙ ap ends_run (sym f)
-
     pub ending_put : (a : ℕ) (t u : List ℕ) → u ≡ placed a (ending c s z) t → u ≡ placed a (ending c s y) t
     ending_put a t u g = g ∙ ap (λ (x : Reply). placed a (ending c s x) t) (sym f)
 
@@ -374,7 +369,7 @@ module _ (y : Reply) (c s : ℕ) where
     pub no_ending_long : a ≡ a + length (ending c s y)
     no_ending_long = let q : length (ending c s y) ≡ 0 = ap (λ (x : Reply). length (ending c s x)) f in omega arith
 
-pub ruleset endings = (halt_fits, fault_fits, fault_within, ending_known, ending_put, ending_long, no_ending_put, no_ending_long)
+pub ruleset endings = (halt_fits, fault_fits, fault_within, ending_put, ending_long, no_ending_put, no_ending_long)
 
 module _ (dv : Delivery) where
   -- THE CHUNK WHOLE

@@ -11,11 +11,13 @@ ghost use Rattle.text.specs.Text.{Put};
 ghost use Rattle.lines.specs.Kept.{Kept};
 ghost use Rattle.chunks.specs.Chunk.{Few, ends_run, ending, ChunkWritten, ChunkListed};
 
+use endings::put_last_line;
 use lines::Number;
 use state::reply::Reply;
 use state::{Core, Delivery};
 
 // Where lines end, whether the last of them ends the listing, and the pointer words of the run so far.
+// Stays: a flag, since place, core and total are there on both sides of it.
 #[derive(Clone, Copy)]
 pub struct Line {
     pub core: Core,
@@ -31,13 +33,6 @@ struct Chunk {
     core: Core,
     total: u64,
     length: usize,
-}
-
-// Where a chunk's lines end, with its reply's where that ends the run.
-#[derive(Clone, Copy)]
-struct Ending {
-    length: usize,
-    is_last: bool,
 }
 
 // The completed steps that a reply counts.
@@ -66,14 +61,13 @@ fn put_steps(text: &mut [u8], at: usize, count: u32, trace: &[u64], steps: u32) 
     requires { (at + 64 * steps ≤ length text.old) × (steps ≤ length trace.now) × (count + steps < 2 ^ 32) × Few (noted_steps (take steps trace.now)) }
     ensures { Put (64 * steps) at (step_lines count (noted_steps (take steps trace.now))) text.old text.new result }
 {
-    let mut tens: [u8; 10] = [48; 10];
+    let mut tens = [b'0'; 10];
     let mut number = lines::number_of(&mut tens, count);
     let mut end = at;
-    let mut i: u32 = 0;
-    while i < steps {
+    let noted = &trace[..steps as usize];
+    for word in noted {
         number = lines::next(&mut tens, number);
-        end = put_step(text, end, &tens, number, trace[i as usize]);
-        i += 1;
+        end = put_step(text, end, &tens, number, *word);
     }
     end
 }
@@ -92,7 +86,7 @@ fn put_chunk(
     requires { (start_questions (as_delivery delivery) (as_machine core prs.old memory.old) ≡ 0) × (at + 64 * steps ≤ length text.old) × (steps ≤ 256) × (count + steps < 2 ^ 32) }
     ensures { ChunkWritten (as_delivery delivery) (as_machine core prs.old memory.old) count steps at text.old result (as_machine result.core prs.new memory.new) text.new }
 {
-    let mut trace: [u64; 256] = [0; 256];
+    let mut trace = [0; 256];
     let y = machine::run(
         core.a,
         core.dbr.address,
@@ -118,28 +112,28 @@ fn put_chunk(
     }
 }
 
-// The last line, where a chunk's reply ends the run, with the total of the whole run.
-fn put_ending(text: &mut [u8], at: usize, count: u32, total: u64, reply: Reply) -> Ending
+// Does a reply end the run, whatever steps were left?
+fn ends_run(reply: Reply) -> bool
+    ensures { result ≡ ends_run reply }
+{
+    !matches!(reply, Reply::Spent(_))
+}
+
+// The last line, where a chunk's reply ends the run, with the total of the whole run; the answer is the place after it.
+fn put_ending(text: &mut [u8], at: usize, count: u32, total: u64, reply: Reply) -> usize
     requires { (at + 64 ≤ length text.old) × ReplyWithin reply × (count + completed reply < 2 ^ 32) }
-    ensures { (result.is_last ≡ ends_run reply) × Put 64 at (ending count total reply) text.old text.new result.length }
+    ensures { Put 64 at (ending count total reply) text.old text.new result }
 {
     match reply {
-        Reply::Refused(n) => Ending {
-            length: endings::put_last_line(text, at, Reply::Refused(n), total),
-            is_last: true,
-        },
-        Reply::Spent(_steps) => Ending {
-            length: at,
-            is_last: false,
-        },
-        Reply::Halted(steps) => Ending {
-            length: endings::put_last_line(text, at, Reply::Halted(count + steps), total),
-            is_last: true,
-        },
-        Reply::Fault(n, steps, t) => Ending {
-            length: endings::put_last_line(text, at, Reply::Fault(n, count + steps, t), total),
-            is_last: true,
-        },
+        Reply::Refused(n) => put_last_line(text, at, Reply::Refused(n), total),
+        Reply::Spent(_steps) => at,
+        Reply::Halted(steps) => put_last_line(text, at, Reply::Halted(count + steps), total),
+        Reply::Fault(n, steps, t) => put_last_line(
+            text,
+            at,
+            Reply::Fault(n, count + steps, t),
+            total,
+        ),
     }
 }
 
@@ -161,12 +155,12 @@ pub fn list_chunk(
     let x = put_chunk(delivery, core, prs, memory, count, steps, text, at);
     let reply = x.reply;
     let sum = total + x.total;
-    let end = put_ending(text, x.length, count, sum, reply);
+    let length = put_ending(text, x.length, count, sum, reply);
     let core = x.core;
     Line {
         core,
-        length: end.length,
-        is_last: end.is_last,
+        length,
+        is_last: ends_run(reply),
         total: sum,
     }
 }

@@ -3,6 +3,8 @@ use mathlib.Core.Path.{◌≡◌, refl, sym, ◌∙◌, ap, ap₂}
 use mathlib.Core.Bool.{Bool, true, false, cond}
 use mathlib.Core.List.{List, ◌++◌, append_assoc}
 use mathlib.Core.Option.{Option, none, some}
+use Rattle.std.specs.Prelude as Std
+use Rattle.std.specs.Prelude.{Some, None}
 use Prim.Native.Nat.{ℕ, ◌+◌, ◌-◌, ◌^◌, ◌≤◌, ◌<◌}
 use native.Mathlib.Omega.{arith}
 use lib.Dec.{leb}
@@ -18,43 +20,38 @@ use Rattle.model.proofs.BranchLaws.{cond_holds}
 use Rattle.formats.proofs.ImageLaws.{record_has_a_mark}
 use Rattle.formats.proofs.ConvertLaws.{zeros_length, compacted_with_zeros}
 use Rattle.fields.specs.declared.mark.Mark as Code
-use Rattle.fields.specs.declared.mark.Mark.TheVariants.{Memory, Start, Word, Run, Unknown}
+use Rattle.fields.specs.declared.mark.Mark.TheVariants.{Memory, Start, Word, Run}
 use Rattle.fields.specs.Mark.{as_mark}
 use Rattle.fields.proofs.MarkLaws.{mark_of_record}
 use Rattle.buffers.specs.Move.{bytes_moved, cleared}
 use Rattle.buffers.proofs.MoveLaws.{part_of_front}
 use Rattle.compaction.specs.declared.front.FrontRecord.{FrontRecord}
-use Rattle.compaction.specs.Front.{FrontOf}
+use Rattle.compaction.specs.Front.{AtFront}
 use Rattle.compaction.specs.Compacted.{Compacted}
 use Rattle.compaction.specs.Renewed.{with_zeros, ZerosAdded, Renewed}
 use Rattle.compaction.proofs.LastLaws.{from_is_drop, front_in, front_none, front_one, front_length}
 
 -- ST BY ITS MARK
-module _ (k : Code.Mark) (bs : List ℕ) (q : as_mark k ≡ mark_of bs) where
-  told : is_start (mark_of bs) ≡ is_start (as_mark k)
-  told = ap is_start (sym q)
+other_mark : (k : Code.Mark) → (k ≡ Start → ⊥) → false ≡ is_start (as_mark (Some k))
+unfolding is_start
+other_mark Memory d = refl
+other_mark Start d = absurd (d refl)
+other_mark Word d = refl
+other_mark Run d = refl
 
+module _ (k : Code.Mark) (bs : List ℕ) (q : as_mark (Some k) ≡ mark_of bs) where
   pub start_is : k ≡ Start → true ≡ is_start (mark_of bs)
   unfolding is_start
-  start_is e = sym (told ∙ ap (λ x. is_start (as_mark x)) e)
+  start_is e = rw (← q, e) refl
 
-  pub memory_is_none : k ≡ Memory → false ≡ is_start (mark_of bs)
-  unfolding is_start
-  memory_is_none e = sym (told ∙ ap (λ x. is_start (as_mark x)) e)
+  pub other_is_none : (k ≡ Start → ⊥) → false ≡ is_start (mark_of bs)
+  other_is_none d = other_mark k d ∙ ap is_start q
 
-  pub word_is_none : k ≡ Word → false ≡ is_start (mark_of bs)
-  unfolding is_start
-  word_is_none e = sym (told ∙ ap (λ x. is_start (as_mark x)) e)
+pub unmarked_is_none : (bs : List ℕ) (k : Std.Option Code.Mark) → as_mark k ≡ mark_of bs → k ≡ None → false ≡ is_start (mark_of bs)
+unfolding is_start
+unmarked_is_none bs k q e = rw (← q, e) refl
 
-  pub run_is_none : k ≡ Run → false ≡ is_start (mark_of bs)
-  unfolding is_start
-  run_is_none e = sym (told ∙ ap (λ x. is_start (as_mark x)) e)
-
-  pub unknown_is_none : k ≡ Unknown → false ≡ is_start (mark_of bs)
-  unfolding is_start
-  unknown_is_none e = sym (told ∙ ap (λ x. is_start (as_mark x)) e)
-
-pub ruleset start_marks = (start_is, memory_is_none, word_is_none, run_is_none, unknown_is_none)
+pub ruleset start_marks = (start_is, other_is_none, unmarked_is_none)
 
 -- A RECORD has its mark
 size_has_a_mark : (v : Rules) (k : Option Mark) (n : ℕ) → (size_by v k n ≡ 0 → ⊥) → 2 ≤ size_by v k n
@@ -63,17 +60,17 @@ size_has_a_mark v none n h = absurd (h refl)
 size_has_a_mark v (some k) n h =
     cond_holds (λ s. (s ≡ 0 → ⊥) → 2 ≤ s) (leb (record_size v k) n) (λ _ _. record_has_a_mark v k) (λ _ f. absurd (f refl)) h
 
-module _ (bs : List ℕ) (r : FrontRecord) (f : FrontOf bs r) (h : r.size ≡ 0 → ⊥) where
+module _ (bs : List ℕ) (r : FrontRecord) (f : AtFront bs r) where
   front_mark : mark_of (take r.size bs) ≡ mark_of bs
   unfolding front_size
   front_mark =
       mark_of_record r.size bs
-      (let y = size_has_a_mark stored (mark_of bs) (length bs) (λ e. h (f.size_is ∙ e)) in let z = f.size_is in omega arith)
+      (let y = size_has_a_mark stored (mark_of bs) (length bs) (let p = f.has_bytes in let q = f.size_is in λ e. absurd (omega arith)) in let z = f.size_is in omega arith)
 
   start_end_front : start_end (records stored bs) ≡ r.size + cond (is_start (mark_of bs)) 0 (start_end (records stored (drop r.size bs)))
   unfolding start_end
   start_end_front =
-      ap start_end (front_one bs r f h)
+      ap start_end (front_one bs r f)
       ∙ ap₂ (λ n k. n + cond (is_start k) 0 (start_end (records stored (drop r.size bs)))) (front_length bs r f) front_mark
 
 -- THE WALK: no record before `at` is an ST
@@ -84,13 +81,18 @@ pub record StartSoFar (bs : List ℕ) (at : ℕ) : Type 0 where
 pub no_start_yet : (bs : List ℕ) → StartSoFar bs 0
 no_start_yet bs = record { in_bytes = omega arith; same = omega arith }
 
-module _ {bs : List ℕ} {at : ℕ} (i : StartSoFar bs at) {r : FrontRecord} (g : FrontOf (take (length bs - at) (drop at bs)) r) where
-  f : FrontOf (drop at bs) r
-  f = rw (from_is_drop at bs) at g
-
-  pub no_start : r.size ≡ 0 → at ≡ start_end (records stored bs)
+module _ {bs : List ℕ} {at : ℕ} (i : StartSoFar bs at) where
+  pub no_start : front_size stored (take (length bs - at) (drop at bs)) ≡ 0 → at ≡ start_end (records stored bs)
   unfolding start_end
-  no_start e = let none : start_end (records stored (drop at bs)) ≡ 0 = ap start_end (front_none (drop at bs) r f e) in let z = i.same in omega arith
+  no_start e =
+      let none : start_end (records stored (drop at bs)) ≡ 0 = ap start_end (front_none (drop at bs) (rw (from_is_drop at bs) at e)) in let z = i.same in omega arith
+
+  pub end_within : at ≤ length bs
+  end_within = i.in_bytes
+
+module _ {bs : List ℕ} {at : ℕ} (i : StartSoFar bs at) {r : FrontRecord} (g : AtFront (take (length bs - at) (drop at bs)) r) where
+  f : AtFront (drop at bs) r
+  f = rw (from_is_drop at bs) at g
 
   pub start_in_bytes : at + r.size ≤ length bs
   start_in_bytes = let y = front_in (drop at bs) r f in let z = length-drop at bs in let h = i.in_bytes in omega arith
@@ -98,15 +100,15 @@ module _ {bs : List ℕ} {at : ℕ} (i : StartSoFar bs at) {r : FrontRecord} (g 
   pub start_fits : length bs < 2 ^ 64 → Fits w64 (at + r.size)
   start_fits l = Fits-le start_in_bytes (record { fits = l })
 
-  module _ (h : r.size ≡ 0 → ⊥) (b : Bool) (q : b ≡ is_start (mark_of (take (length bs - at) (drop at bs)))) where
+  module _ (b : Bool) (q : b ≡ is_start (mark_of (take (length bs - at) (drop at bs)))) where
     here : start_end (records stored (drop at bs)) ≡ r.size + cond b 0 (start_end (records stored (drop (at + r.size) bs)))
     here =
-        start_end_front (drop at bs) r f h
+        start_end_front (drop at bs) r f
         ∙ ap₂ (λ c xs. r.size + cond c 0 (start_end (records stored xs))) (ap (λ xs. is_start (mark_of xs)) (sym (from_is_drop at bs)) ∙ sym q)
         (drop-drop r.size at bs)
 
     pub start_less : length bs - (at + r.size) < length bs - at
-    start_less = let y = start_in_bytes in omega arith
+    start_less = let y = start_in_bytes in let h = f.has_bytes in omega arith
 
     pub start_found : b ≡ true → at + r.size ≡ start_end (records stored bs)
     start_found e = let y : start_end (records stored (drop at bs)) ≡ r.size + 0 = here ∙ rw e in let z = i.same in omega arith
@@ -116,7 +118,7 @@ module _ {bs : List ℕ} {at : ℕ} (i : StartSoFar bs at) {r : FrontRecord} (g 
         let y : start_end (records stored (drop at bs)) ≡ r.size + start_end (records stored (drop (at + r.size) bs)) = here ∙ rw e in
         record { in_bytes = start_in_bytes; same = let z = i.same in omega arith }
 
-pub ruleset start_walk = (no_start_yet, no_start, start_in_bytes, start_fits, start_less, start_found, start_later)
+pub ruleset start_walk = (no_start_yet, no_start, end_within, start_in_bytes, start_fits, start_less, start_found, start_later)
 
 -- FIVE ZEROS where it ends
 module _ (end : ℕ) (t : List ℕ) (room : end + 5 ≤ length t) (at : ℕ) (h : at ≤ end) where

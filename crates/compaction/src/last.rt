@@ -1,32 +1,31 @@
 // Where the last record of each word stands.
-ghost use Rattle.std.specs.Prelude.{◌≡◌, ◌||◌, ◌≤◌, eqb, get_or};
+ghost use Rattle.std.specs.Prelude.{◌≡◌, ◌<◌, IfSome};
 ghost use Rattle.model.specs.Convert.{records};
 ghost use Rattle.model.specs.Image.{stored};
-ghost use Rattle.compaction.specs.Last.{last_places};
+ghost use Rattle.compaction.specs.Last.{last_places, last_here};
 
 use crate::front::front;
 
-// The entry after the words' is for records that write none.
-pub fn note_last(bytes: &[u8], last: &mut [usize; 8193])
+#[tactic(auto, using(crate::proofs::LastLaws::notes))]
+pub fn note_last(bytes: &[u8], last: &mut [usize; 8192])
     ensures { last.new ≡ last_places 0 (records stored bytes.now) last.old }
 {
     let mut at = 0;
-    loop {
-        let record = front(&bytes[at..]);
-        let size = record.size;
-        if size == 0 {
-            return;
+    while let Some(record) = front(&bytes[at..]) {
+        if let Some(word) = record.word {
+            last[word] = at;
         }
-        let word = record.word;
-        last[word] = at;
-        at += size;
+        at += record.size;
     }
 }
 
 // Does no later record write the word of the one at `at`?
-pub fn is_last(last: &[usize; 8193], word: usize, at: usize) -> bool
-    requires { word ≤ 8192 }
-    ensures { result ≡ (eqb word 8192 || eqb (get_or last.now word 0) at) }
+pub fn is_last(last: &[usize; 8192], word: Option<usize>, at: usize) -> bool
+    requires { IfSome word (λ a. a < 8192) }
+    ensures { result ≡ last_here word last.now at }
 {
-    (word == 8192) | (last[word] == at)
+    match word {
+        None => true,
+        Some(word) => last[word] == at,
+    }
 }

@@ -11,7 +11,7 @@ fn add_zeros(buffer: &mut [u8], end: usize) -> usize
     ensures { ZerosAdded end buffer.old result buffer.new }
 {
     let at = start_end(&buffer[..end]);
-    buffers::move_up(buffer, at, at + 5, end - at);
+    buffers::move_bytes(buffer, at, at + 5, end - at);
     buffers::clear(buffer, at, 5);
     end + 5
 }

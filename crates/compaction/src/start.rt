@@ -6,33 +6,27 @@ ghost use Rattle.model.specs.Image.{stored, mark_of};
 use crate::front::front;
 use fields::mark::{Mark, mark_of};
 
+#[tactic(auto, using(crate::proofs::StartLaws::start_marks))]
 fn is_start(bytes: &[u8]) -> bool
     ensures { result ≡ is_start (mark_of bytes.now) }
 {
-    let mark = mark_of(bytes);
-    match mark {
-        Mark::Memory => false,
-        Mark::Start => true,
-        Mark::Word => false,
-        Mark::Run => false,
-        Mark::Unknown => false,
-    }
+    let Some(mark) = mark_of(bytes) else {
+        return false;
+    };
+    matches!(mark, Mark::Start)
 }
 
 // Without an ST, where the records end.
+#[tactic(auto, using(crate::proofs::StartLaws::start_walk))]
 pub fn start_end(bytes: &[u8]) -> usize
     ensures { (result ≡ start_end (records stored bytes.now)) × (result ≤ length bytes.now) }
 {
     let mut at = 0;
-    loop {
-        let record = front(&bytes[at..]);
-        let size = record.size;
-        if size == 0 {
-            return at;
-        }
+    while let Some(record) = front(&bytes[at..]) {
         if is_start(&bytes[at..]) {
-            return at + size;
+            return at + record.size;
         }
-        at += size;
+        at += record.size;
     }
+    at
 }

@@ -4,7 +4,6 @@ use mathlib.Core.List.{List, [], ◌∷◌, map}
 use Prim.Native.Nat.{ℕ, zero, suc, ◌+◌, ◌≤◌, max}
 use native.Mathlib.Nat.{le_of_suc-le-suc, not-suc-le-zero}
 use native.Mathlib.Numerals.{add-one}
-use native.Mathlib.Omega.{arith}
 use lib.ListN.{length, get_or, set}
 use Rattle.model.specs.Words.{Pointer}
 use Rattle.model.specs.Registers.{zero_pointer, with_ring_at_least}
@@ -48,7 +47,4 @@ pub all_raised : (n k : ℕ) (prs : List ℕ) (qs : List Pointer) → qs ≡ rai
 unfolding as_pointers pointers_in
 all_raised n k prs qs f h = f ∙ raised_all n k (as_pointers prs) h
 
-pub raised_ring_fits : (r n j : ℕ) → r ≡ max n j → n ≤ 7 → j ≤ 255 → r ≤ 255
-raised_ring_fits r n j e h i = omega arith
-
-pub ruleset raises = (none_raised, turn_raises, all_raised, raised_ring_fits)
+pub ruleset raises = (none_raised, turn_raises, all_raised)

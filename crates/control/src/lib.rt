@@ -1,20 +1,18 @@
 // The opcodes that move control: transfers, CALL and RETURN.
 #![tactic(auto)]
 
-ghost use Rattle.std.specs.Prelude.{◌≡◌, true, List, map, ◌+◌, ◌≤◌, length};
-ghost use Rattle.model.specs.Words as Words;
+ghost use Rattle.std.specs.Prelude.{◌≡◌, true, map, ◌+◌, ◌≤◌, length};
 ghost use Rattle.model.specs.Registers as Registers;
-ghost use Rattle.model.specs.Questions.{return_questions, transfer_questions};
-ghost use Rattle.model.specs.Program.{finish};
 ghost use Rattle.model.specs.Step as Step;
 ghost use Rattle.words.specs.View.{as_pointer, PointerWithin};
 ghost use Rattle.opcodes.specs.Table.{taken};
 ghost use Rattle.segments.specs.Translation.{as_dbr};
-ghost use Rattle.state.specs.View.{registers_with, as_registers, as_pointers, Ready, Does, DoesWithAnyPrs, DoesInAnyMemory, DoesAfterLook};
-ghost use Rattle.control.specs.Call.{Enters, ring_by, CheckedBy, ringed_by, RingWithin, RingRight};
+ghost use Rattle.state.specs.View.{as_registers, as_pointers, Ready, Does, DoesWithAnyPrs};
+ghost use Rattle.control.specs.Call.{Enters, CheckedBy};
 
 use questions::Use;
-use segments::translate::{Dbr, Translated};
+use questions::fault::Fault;
+use segments::translate::Dbr;
 use state::{After, Core, End};
 use words::descriptor::Descriptor;
 use words::pointer::Pointer;
@@ -38,81 +36,43 @@ pub fn transfer(core: Core, code: Descriptor, memory: &[u64], opcode: u8, t: Poi
     if !opcodes::arithmetic::is_taken(opcode, core.a) {
         return state::completed(core, code);
     }
-    move_to(core, code, memory, t)
-}
-
-// A transfer that is taken.
-fn move_to(core: Core, code: Descriptor, memory: &[u64], t: Pointer) -> After
-    requires { Ready core memory.now }
-    ensures { DoesWithAnyPrs core code memory.now (λ r. Step.transfer true r (as_pointer t)) result memory.now }
-{
-    let dbr = core.dbr;
-    let ipr = core.ipr;
-    moved_to(
-        core,
-        code,
-        t,
-        segments::access::look(Use::Transfer, dbr, memory, ipr, t),
-    )
-}
-
-// What it does with the look's answer, wherever the descriptor was found.
-fn moved_to(core: Core, code: Descriptor, t: Pointer, x: Translated) -> After
-    ensures { (ps : List Words.Pointer) → DoesAfterLook core code ps (transfer_questions (as_pointer core.ipr) (as_pointer t)) (as_pointer t) x (λ _. finish (Registers.with_ipr (as_pointer t) (registers_with core ps))) result ps }
-{
-    match x {
-        Translated::Refused(n) => state::faulted(core, code, n, t),
-        Translated::Passed(d) => entered(core, t, d),
+    match segments::access::look(Use::Transfer, core.dbr, memory, core.ipr, t) {
+        Err(fault) => state::faulted(core, code, fault, t),
+        Ok(d) => entered(core, t, d),
     }
 }
 
-// What CALL's check gives: the first no, or the segment's descriptor and the new ring.
+// The descriptor of the segment that a CALL enters, and the ring that it goes on in.
 #[derive(Clone, Copy)]
-pub enum Checked {
-    Bad(u8),
-    Ring(Descriptor, u64),
+pub struct Entry {
+    pub descriptor: Descriptor,
+    pub ring: u64,
 }
 
 // 11 to 15 and 26 to 30 of a pointer, for a CALL at `ipr`.
-pub fn check(dbr: Dbr, memory: &[u64], ipr: Pointer, t: Pointer) -> Checked
+pub fn check(dbr: Dbr, memory: &[u64], ipr: Pointer, t: Pointer) -> Result<Entry, Fault>
     requires { dbr.address + dbr.length ≤ length memory.now }
     ensures { CheckedBy (as_dbr dbr) memory.now (as_pointer ipr) (as_pointer t) result }
 {
-    ring_by(t, segments::access::look(Use::Call, dbr, memory, ipr, t))
+    let descriptor = segments::access::look(Use::Call, dbr, memory, ipr, t)?;
+    let ring = questions::new_ring(t, descriptor);
+    Ok(Entry { descriptor, ring })
 }
 
-// What the check makes of the look's answer.
-fn ring_by(t: Pointer, x: Translated) -> Checked
-    ensures { result ≡ ring_by (as_pointer t) x }
-{
-    match x {
-        Translated::Refused(n) => Checked::Bad(n),
-        Translated::Passed(d) => Checked::Ring(d, questions::new_ring(t, d)),
-    }
-}
-
+// The move of a CALL is by its check's ring.
 pub fn call(core: Core, code: Descriptor, prs: &mut [u16; 24], memory: &[u64], t: Pointer) -> After
     requires { Ready core memory.now }
     ensures { Does core code (as_pointers prs.old) memory.now (Step.call (as_registers core prs.old) (as_pointer t)) result (as_pointers prs.new) memory.now }
 {
-    let dbr = core.dbr;
-    let ipr = core.ipr;
-    called(core, code, prs, t, check(dbr, memory, ipr, t))
-}
-
-// What CALL does with the check's answer: the move, by its ring.
-fn called(core: Core, code: Descriptor, prs: &mut [u16; 24], t: Pointer, x: Checked) -> After
-    requires { RingWithin x }
-    ensures { DoesInAnyMemory core code (as_pointers prs.old) (ringed_by x (as_pointer t) (λ n. finish (Step.called n (as_pointer t) (as_registers core prs.old)))) (RingRight x) result (as_pointers prs.new) }
-{
-    let ipr = core.ipr;
-    match x {
-        Checked::Bad(n) => state::faulted(core, code, n, t),
-        Checked::Ring(d, ring) => {
-            state::prs::set_stack_base(prs, ipr.ring, ring);
-            let mut p = t;
-            p.ring = ring;
-            entered(core, p, d)
+    match check(core.dbr, memory, core.ipr, t) {
+        Err(fault) => state::faulted(core, code, fault, t),
+        Ok(entry) => {
+            state::prs::set_stack_base(prs, core.ipr.ring, entry.ring);
+            let p = Pointer {
+                ring: entry.ring,
+                ..t
+            };
+            entered(core, p, entry.descriptor)
         }
     }
 }
@@ -122,15 +82,17 @@ fn raise_rings(prs: &mut [u16; 24], ring: u64)
     requires { ring ≤ 7 }
     ensures { as_pointers prs.new ≡ map (Registers.with_ring_at_least ring) (as_pointers prs.old) }
 {
-    let mut k: usize = 0;
-    while k < 8 {
-        let mut p = state::prs::pr(prs, k);
-        p.ring = state::larger(ring, p.ring);
-        state::prs::set_pr(prs, k, p);
-        k += 1;
+    for k in 0..8 {
+        let p = state::prs::pr(prs, k);
+        let raised = Pointer {
+            ring: ring.max(p.ring),
+            ..p
+        };
+        state::prs::set_pr(prs, k, raised);
     }
 }
 
+// RETURN goes on in TPR's ring, which no PR's is below then.
 pub fn return_to(
     core: Core,
     code: Descriptor,
@@ -141,24 +103,9 @@ pub fn return_to(
     requires { Ready core memory.now × PointerWithin t }
     ensures { Does core code (as_pointers prs.old) memory.now (Step.return (as_registers core prs.old) (as_pointer t)) result (as_pointers prs.new) memory.now }
 {
-    let dbr = core.dbr;
-    returned(
-        core,
-        code,
-        prs,
-        t,
-        segments::access::look(Use::Return, dbr, memory, t, t),
-    )
-}
-
-// What RETURN does with the look's answer.
-fn returned(core: Core, code: Descriptor, prs: &mut [u16; 24], t: Pointer, x: Translated) -> After
-    requires { t.ring ≤ 7 }
-    ensures { DoesAfterLook core code (as_pointers prs.old) (return_questions (as_pointer t)) (as_pointer t) x (λ _. finish (Step.returned (as_pointer t) (as_registers core prs.old))) result (as_pointers prs.new) }
-{
-    match x {
-        Translated::Refused(n) => state::faulted(core, code, n, t),
-        Translated::Passed(d) => {
+    match segments::access::look(Use::Return, core.dbr, memory, t, t) {
+        Err(fault) => state::faulted(core, code, fault, t),
+        Ok(d) => {
             raise_rings(prs, t.ring);
             entered(core, t, d)
         }

@@ -1,4 +1,3 @@
 -- Laws of this crate. Assumes nothing.
-pub mod JudgeLaws
 pub mod PieceLaws
 pub mod WholeLaws

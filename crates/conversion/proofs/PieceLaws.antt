@@ -17,20 +17,26 @@ use Rattle.formats.proofs.CutLaws.{cut}
 use Rattle.formats.proofs.LastLaws.{compacted_early}
 use Rattle.formats.proofs.OverwrittenLaws.{last_of_each_loads}
 use Rattle.loading.specs.declared.Loading.{Loading}
-use Rattle.loading.specs.View.{as_loading, LoadingWithin}
-use Rattle.loading.specs.Record.{Goes, outcome_image}
-use Rattle.loading.proofs.RecordLaws.{within_still, still_sized}
+use Rattle.loading.specs.View.{as_loading}
+use Rattle.loading.specs.Record.{Goes, outcome_image, StartOf}
 use Rattle.image.specs.declared.load.LoadOutcome.TheVariants as Load
-use Rattle.image.specs.declared.load.Loaded.{Loaded}
+use Rattle.image.specs.declared.load.LoadOutcome.{LoadOutcome}
+use Rattle.image.specs.declared.error.ImageError.{ImageError}
 use Rattle.image.specs.Load.{LoadedAs}
+use Rattle.image.proofs.LoadLaws.{words_within, loaded_delivery, loaded_full}
+use Rattle.host.specs.Record.{machine_of, delivery_of}
+use Rattle.questions.specs.Numbers.{number_by, start_number}
+use Rattle.questions.specs.declared.start.StartError.{StartError}
+use Rattle.loading.specs.declared.error.LoadError.{LoadError}
+use Rattle.loading.specs.declared.Start.{Start}
+use Rattle.std.specs.Prelude.{Result, Ok, Err}
 use Rattle.buffers.specs.Move.{bytes_moved}
 use Rattle.buffers.proofs.MoveLaws.{length_moved, take_moved}
 use Rattle.compaction.specs.Compacted.{Compacted}
 use Rattle.compaction.specs.Renewed.{with_zeros, Renewed}
 use Rattle.compaction.proofs.StartLaws.{renewed_compacted}
 use Rattle.conversion.specs.declared.ConvertOutcome.{ConvertOutcome}
-use Rattle.conversion.specs.declared.ConvertOutcome.TheVariants.{Refused, More, Ready}
-use Rattle.conversion.specs.declared.Converted.{Converted}
+use Rattle.conversion.specs.declared.ConvertOutcome.TheVariants.{More, Ready}
 use Rattle.conversion.specs.Piece.{waiting, JudgedAs, PieceJudged, BufferAfter, PieceWithin, PieceConverted, convert_by, AcceptedWith, NothingAccepted, ReadingAccepts, Goes_on, PiecesConvert, RoomMade}
 
 -- BYTES THAT WAIT
@@ -40,24 +46,29 @@ drop_take (suc a) zero xs = drop-nil (suc a) ∙ sym (ap (λ n. take n (drop (su
 drop_take (suc a) (suc b) [] = sym (take-nil (suc b - suc a))
 drop_take (suc a) (suc b) (x ∷ xs) = drop_take a b xs ∙ ap (λ n. take n (drop a xs)) (let e : b - a ≡ suc b - suc a = omega arith in e)
 
-module _ (l : Loading) (m t : List ℕ) (kept size : ℕ) (e : Bool) (x : Loaded) (m_now : List ℕ)
-    (w : LoadedAs l m (waiting kept size t) e x m_now) (full : length m ≡ 8320) (h : kept ≤ size) (room : size + 5 ≤ length t) where
+start_nonzero : (error : StartError) → start_number error ≡ 0 → ⊥
+start_nonzero StartError.MemoryTooLarge e = omega arith
+start_nonzero StartError.OutOfRange e = omega arith
+start_nonzero StartError.RingsBelow e = omega arith
+start_nonzero StartError.BaseOutsideMemory e = omega arith
+
+module _ (l : Loading) (m t : List ℕ) (kept size : ℕ) (e : Bool) (x : Result LoadOutcome LoadError) (j : Loading) (m_now : List ℕ)
+    (w : LoadedAs l m (waiting kept size t) e x j m_now) (full : length m ≡ 8320) (h : kept ≤ size) (room : size + 5 ≤ length t) where
   waiting_size : length (waiting kept size t) ≡ size - kept
   waiting_size = length-take-le (size - kept) (drop kept t) (let z = length-drop kept t in omega arith)
 
-  pub piece_refused : (n : ℕ) → x.outcome ≡ Load.Refused n →
-      PieceConverted l m t kept size e (record { loading = x.loading; outcome = Refused n }) m_now t
+  pub piece_refused : (error : LoadError) → x ≡ Err error → PieceConverted l m t kept size e (Err (ImageError.Load error)) j m_now t
   unfolding PieceJudged JudgedAs BufferAfter PieceWithin Goes outcome_image
-  piece_refused n o =
+  piece_refused error o =
       record {
         store_size = w.size_same ∙ full;
         within = w.within;
         judged = λ rest z. w.goes rest z ∙ rw o;
         buffer_after = refl;
-        outcome_within = rw o at w.outcome_within;
+        outcome_within = tt;
       }
 
-  module _ (used : ℕ) (o : x.outcome ≡ Load.More used) where
+  module _ (used : ℕ) (o : x ≡ Ok (Load.More used)) where
     used_within : used ≤ size - kept
     used_within = let q = (rw o at w.outcome_within).1 in omega (arith, waiting_size)
 
@@ -69,13 +80,13 @@ module _ (l : Loading) (m t : List ℕ) (kept size : ℕ) (e : Bool) (x : Loaded
         drop_take used (size - kept) (drop kept t)
         ∙ ap₂ (λ n ys. take n ys) (let q : size - kept - used ≡ size - (kept + used) = omega arith in q) (drop-drop used kept t)
 
-    pub piece_more : PieceConverted l m t kept size e (record { loading = x.loading; outcome = More (kept + used) }) m_now t
+    pub piece_more : PieceConverted l m t kept size e (Ok (More (kept + used))) j m_now t
     unfolding PieceJudged JudgedAs BufferAfter PieceWithin Goes outcome_image
     piece_more =
         record {
           store_size = w.size_same ∙ full;
           within = w.within;
-          judged = λ rest z. w.goes rest z ∙ rw o (ap (λ ys. Image.image_after (as_loading x.loading m_now) (ys ++ rest)) still_waiting);
+          judged = λ rest z. w.goes rest z ∙ rw o (ap (λ ys. Image.image_after (as_loading j m_now) (ys ++ rest)) still_waiting);
           buffer_after = refl;
           outcome_within =
               let q = rw o at w.outcome_within in
@@ -83,53 +94,47 @@ module _ (l : Loading) (m t : List ℕ) (kept size : ℕ) (e : Bool) (x : Loaded
         }
 
   -- once RN has come, ME and ST have, and 1 to 4 are asked
-  module _ (b : ℕ) (o : x.outcome ≡ Load.Ready b) where
-    pub ready_memory : x.loading.has_memory ≡ true
-    ready_memory = (rw o at w.outcome_within).1
+  module _ (s : Start) (o : x ≡ Ok (Load.Ready s)) where
+    ready : StartOf j s
+    ready = (rw o at w.outcome_within).1
 
-    pub ready_registers : x.loading.has_registers ≡ true
-    ready_registers = (rw o at w.outcome_within).2
+    full_now : length m_now ≡ 8320
+    full_now = w.size_same ∙ full
 
-    module _ (m_judged : List ℕ) (l_judged : length m_judged ≡ length m_now) (n : ℕ)
-        (asked : n ≡ start_questions (as_loading x.loading m_now).delivery (Image.machine_of (as_loading x.loading m_now))) where
-      within_judged : LoadingWithin x.loading m_judged
-      within_judged =
-          record {
-            sized = still_sized x.loading.is_stored m_now w.within.sized m_judged l_judged;
-            memory_within = within_still x.loading.has_memory x.loading.words m_now w.within.memory_within ready_memory m_judged;
-          }
+    pub ready_words : s.words ≤ length m_now
+    ready_words = words_within j m_now s ready w.within full_now
 
+    module _ {A : Type 0} (r : Result A StartError) (asked : number_by start_number r ≡ start_questions (delivery_of s.registers) (machine_of s.registers (take s.words m_now))) where
       whole : (rest : List ℕ) → (e ≡ true → rest ≡ []) →
-          Image.image_after (as_loading l m) (waiting kept size t ++ rest) ≡ Image.checked (as_loading x.loading m_now).delivery (Image.machine_of (as_loading x.loading m_now)) b
+          Image.image_after (as_loading l m) (waiting kept size t ++ rest) ≡ Image.checked (delivery_of s.registers) (machine_of s.registers (take s.words m_now)) s.budget
       unfolding Goes outcome_image
-      whole rest z = w.goes rest z ∙ rw o
+      whole rest z = w.goes rest z ∙ rw o (ap₂ (λ d k. Image.checked d k s.budget) (loaded_delivery j m_now s ready) (loaded_full j m_now s ready full_now))
 
-      pub piece_judged_no : (n ≡ 0 → ⊥) → PieceConverted l m t kept size e (record { loading = x.loading; outcome = Refused n }) m_judged t
+      pub piece_judged_no : (error : StartError) → r ≡ Err error → PieceConverted l m t kept size e (Err (ImageError.Start error)) j m_now t
       unfolding PieceJudged JudgedAs BufferAfter PieceWithin
-      piece_judged_no f =
+      piece_judged_no error q =
           record {
-            store_size = l_judged ∙ w.size_same ∙ full;
-            within = within_judged;
-            judged = λ rest z. whole rest z ∙ checked_refused _ _ b n asked f;
+            store_size = full_now;
+            within = w.within;
+            judged = λ rest z. whole rest z ∙ checked_refused _ _ s.budget (start_number error) (rw q at asked) (start_nonzero error);
             buffer_after = refl;
-            outcome_within = omega arith;
+            outcome_within = tt;
           }
 
-      pub piece_ready : n ≡ 0 → (k : ℕ) (u : List ℕ) → Renewed size t k u →
-          PieceConverted l m t kept size e (record { loading = x.loading; outcome = Ready k }) m_judged u
+      pub piece_ready : (a : A) → r ≡ Ok a → (k : ℕ) (u : List ℕ) → Renewed size t k u → PieceConverted l m t kept size e (Ok (Ready k)) j m_now u
       unfolding PieceJudged JudgedAs BufferAfter PieceWithin
-      piece_ready f k u c =
+      piece_ready a q k u c =
           record {
-            store_size = l_judged ∙ w.size_same ∙ full;
-            within = within_judged;
+            store_size = full_now;
+            within = w.within;
             judged =
                 λ rest z.
-                ((as_loading x.loading m_now).delivery, (Image.machine_of (as_loading x.loading m_now), (b, whole rest z ∙ checked_passed _ _ b n asked f)));
+                (delivery_of s.registers, (machine_of s.registers (take s.words m_now), (s.budget, whole rest z ∙ checked_passed _ _ s.budget 0 (rw q at asked) refl)));
             buffer_after = c;
             outcome_within = (rw o at w.outcome_within).0;
           }
 
-pub ruleset pieces = (piece_refused, loaded_fits, piece_more, ready_memory, ready_registers, piece_judged_no, piece_ready)
+pub ruleset pieces = (loaded_fits, piece_more, ready_words)
 
 -- ROOM: dropping early changes nothing, and what waits follows
 module _ (kept size : ℕ) (t : List ℕ) (h : kept ≤ size) (room : size ≤ length t) (n : ℕ) (v : List ℕ) (c : Compacted kept t n v) where
@@ -218,22 +223,22 @@ module _ (l : Image.Loading) (t : List ℕ) (kept size : ℕ) (e : Bool) (k : Im
   abbrev given : List ℕ
   given = waiting kept size t ++ rest
 
-  by_outcome : (o : ConvertOutcome) → JudgedAs o (Image.image_after l given) k size t rest → BufferAfter o size t u → PieceWithin kept size e o →
+  by_outcome : (o : Result ConvertOutcome ImageError) → JudgedAs o (Image.image_after l given) k size t rest → BufferAfter o size t u → PieceWithin kept size e o →
       convert_after l (take kept t) given ≡ convert_by o k size u rest
   unfolding convert_after convert_on convert_by JudgedAs BufferAfter PieceWithin AcceptedWith
-  by_outcome (Refused n) j a p = rw j refl
-  by_outcome (More n) j a p =
+  by_outcome (Err error) j a p = rw j refl
+  by_outcome (Ok (More n)) j a p =
       ap₂ convert_on j (parts_join kept size t rest h ∙ sym (parts_join n size t rest p.2))
       ∙ ap (λ xs. convert_on (Image.image_after k (waiting n size xs ++ rest)) (take n xs ++ (waiting n size xs ++ rest))) (sym a)
-  by_outcome (Ready n) j a p =
+  by_outcome (Ok (Ready n)) j a p =
       let all : take kept t ++ given ≡ take size t = parts_join kept size t rest h ∙ ap (λ xs. take size t ++ xs) (z p) ∙ append-nil (take size t) in
       let accepted = j.1.1.1 in
       ap₂ convert_on accepted all
       ∙ sym (front_renewed size t n u a j.0 j.1.0 j.1.1.0 (ap Image.stored_image (sym all) ∙ g rest j.0 j.1.0 j.1.1.0 accepted))
 
-module _ (l : Loading) (m t : List ℕ) (kept size : ℕ) (e : Bool) (x : Converted) (m_now u : List ℕ) (h : kept ≤ size)
-    (g : AcceptedWith (take kept t) (as_loading l m) (waiting kept size t)) (w : PieceConverted l m t kept size e x m_now u) where
-  still_accepts : (n : ℕ) → x.outcome ≡ More n → AcceptedWith (take n u) (as_loading x.loading m_now) (waiting n size u)
+module _ (l : Loading) (m t : List ℕ) (kept size : ℕ) (e : Bool) (x : Result ConvertOutcome ImageError) (j : Loading) (m_now u : List ℕ) (h : kept ≤ size)
+    (g : AcceptedWith (take kept t) (as_loading l m) (waiting kept size t)) (w : PieceConverted l m t kept size e x j m_now u) where
+  still_accepts : (n : ℕ) → x ≡ Ok (More n) → AcceptedWith (take n u) (as_loading j m_now) (waiting n size u)
   unfolding AcceptedWith PieceJudged JudgedAs BufferAfter PieceWithin
   still_accepts n o rest d k b a =
       let same = rw o at w.buffer_after in
@@ -241,15 +246,15 @@ module _ (l : Loading) (m t : List ℕ) (kept size : ℕ) (e : Bool) (x : Conver
       let judged = rw o at (w.judged rest (λ f. absurd (true≢false (sym f ∙ p.0)))) in
       ap (λ xs. Image.stored_image (take n xs ++ (waiting n size xs ++ rest))) same
       ∙ ap Image.stored_image (parts_join n size t rest p.2 ∙ sym (parts_join kept size t rest h))
-      ∙ g rest d k b (judged ∙ ap (λ xs. Image.image_after (as_loading x.loading m_now) (waiting n size xs ++ rest)) (sym same) ∙ a)
+      ∙ g rest d k b (judged ∙ ap (λ xs. Image.image_after (as_loading j m_now) (waiting n size xs ++ rest)) (sym same) ∙ a)
 
-  goes_on : Goes_on l m t kept size e x m_now u
+  goes_on : Goes_on l m t kept size e x j m_now u
   unfolding PieceJudged
   goes_on =
       record {
         converts =
             λ rest z.
-            by_outcome (as_loading l m) t kept size e (as_loading x.loading m_now) u h g rest z x.outcome (w.judged rest z) w.buffer_after w.outcome_within;
+            by_outcome (as_loading l m) t kept size e (as_loading j m_now) u h g rest z x (w.judged rest z) w.buffer_after w.outcome_within;
         accepts = still_accepts;
       }
 

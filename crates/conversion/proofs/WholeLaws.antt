@@ -16,8 +16,12 @@ use Rattle.calls.specs.Call.{CalledAs}
 use Rattle.calls.proofs.CallLaws.{refuses, wrote}
 use Rattle.image.proofs.LoadLaws.{may_load}
 use Rattle.conversion.specs.declared.ConvertOutcome.{ConvertOutcome}
-use Rattle.conversion.specs.declared.ConvertOutcome.TheVariants.{Refused, More, Ready}
-use Rattle.conversion.specs.declared.Converted.{Converted}
+use Rattle.conversion.specs.declared.ConvertOutcome.TheVariants.{More, Ready}
+use Rattle.image.specs.Numbers.{image_number}
+use Rattle.image.specs.declared.error.ImageError.{ImageError}
+use Rattle.loading.specs.declared.error.LoadError.{LoadError}
+use Rattle.fields.specs.declared.rules.Rules.TheVariants.{Stored}
+use Rattle.std.specs.Prelude.{Result, Ok, Err}
 use Rattle.conversion.specs.Piece.{waiting, JudgedAs, PieceJudged, BufferAfter, PieceWithin, PieceConverted}
 
 -- the bytes of the image, with five more after them
@@ -25,15 +29,15 @@ abbrev image_bytes : List ℕ → List ℕ
 image_bytes t = take (length t - 5) t
 
 -- too few for the five are no bytes of an image
-pub convert_nothing : (t : List ℕ) → length t < 5 → CalledAs (convert_call t) (record { number = 42; length = 0 }) t
+pub convert_nothing : (t : List ℕ) → length t < 5 → CalledAs image_number (convert_call t) (Err (ImageError.Load LoadError.OutOfPlace)) t
 unfolding convert_call convert_call_on Image.stored_image
 convert_nothing t h =
     let none : image_bytes t ≡ [] = ap (λ n. take n t) (let e : length t - 5 ≡ 0 = omega arith in e) in
-    refuses (convert_call t) 42 t
-    (ap (λ i. convert_call_on i (image_bytes t) t) (ap Image.stored_image none ∙ image_needs_rn (Image.nothing_loaded Image.stored))) (λ e. omega arith)
+    refuses image_number (convert_call t) (ImageError.Load LoadError.OutOfPlace) t
+    (ap (λ i. convert_call_on i (image_bytes t) t) (ap Image.stored_image none ∙ image_needs_rn (Image.nothing_loaded Image.stored)))
 
-module _ (l : Loading) (v t : List ℕ) (x : Converted) (m_now u : List ℕ) (s : Starts true l) (z : v ≡ replicate 8320 0)
-    (w : PieceConverted l v t 0 (length t - 5) true x m_now u) where
+module _ (l : Loading) (v t : List ℕ) (x : Result ConvertOutcome ImageError) (j : Loading) (m_now u : List ℕ) (s : Starts Stored l) (z : v ≡ replicate 8320 0)
+    (w : PieceConverted l v t 0 (length t - 5) true x j m_now u) where
   abbrev size : ℕ
   size = length t - 5
 
@@ -44,37 +48,37 @@ module _ (l : Loading) (v t : List ℕ) (x : Converted) (m_now u : List ℕ) (s 
   all_waits : waiting 0 size t ++ [] ≡ image_bytes t
   all_waits = append-nil _ ∙ ap (λ n. take n t) (let e : size - 0 ≡ size = omega arith in e)
 
-  whole : (o : ConvertOutcome) → x.outcome ≡ o → JudgedAs o (Image.stored_image (image_bytes t)) (as_loading x.loading m_now) size t []
+  whole : (o : Result ConvertOutcome ImageError) → x ≡ o → JudgedAs o (Image.stored_image (image_bytes t)) (as_loading j m_now) size t []
   unfolding PieceJudged Image.stored_image
   whole o q =
-      subst (λ i. JudgedAs o i (as_loading x.loading m_now) size t []) (ap₂ Image.image_after starts all_waits)
-      (subst (λ a. JudgedAs a (Image.image_after (as_loading l v) (waiting 0 size t ++ [])) (as_loading x.loading m_now) size t []) q (w.judged [] (λ _. refl)))
+      subst (λ i. JudgedAs o i (as_loading j m_now) size t []) (ap₂ Image.image_after starts all_waits)
+      (subst (λ a. JudgedAs a (Image.image_after (as_loading l v) (waiting 0 size t ++ [])) (as_loading j m_now) size t []) q (w.judged [] (λ _. refl)))
 
-  buffer : (o : ConvertOutcome) → x.outcome ≡ o → BufferAfter o size t u
+  buffer : (o : Result ConvertOutcome ImageError) → x ≡ o → BufferAfter o size t u
   buffer o q = subst (λ a. BufferAfter a size t u) q w.buffer_after
 
-  bounds : (o : ConvertOutcome) → x.outcome ≡ o → PieceWithin 0 size true o
+  bounds : (o : Result ConvertOutcome ImageError) → x ≡ o → PieceWithin 0 size true o
   bounds o q = subst (PieceWithin 0 size true) q w.outcome_within
 
-  pub convert_refused : (n : ℕ) → x.outcome ≡ Refused n → CalledAs (convert_call t) (record { number = n; length = 0 }) u
-  unfolding convert_call convert_call_on JudgedAs BufferAfter PieceWithin
-  convert_refused n q =
-      subst (CalledAs (convert_call t) (record { number = n; length = 0 })) (sym (buffer (Refused n) q))
-      (refuses (convert_call t) n t (ap (λ i. convert_call_on i (image_bytes t) t) (whole (Refused n) q)) (λ e. let h = bounds (Refused n) q in omega arith))
+  pub convert_refused : (error : ImageError) → x ≡ Err error → CalledAs image_number (convert_call t) (Err error) u
+  unfolding convert_call convert_call_on JudgedAs BufferAfter
+  convert_refused error q =
+      subst (CalledAs image_number (convert_call t) (Err error)) (sym (buffer (Err error) q))
+      (refuses image_number (convert_call t) error t (ap (λ i. convert_call_on i (image_bytes t) t) (whole (Err error) q)))
 
   -- a whole image leaves no bytes over
-  pub convert_no_more : (n : ℕ) → x.outcome ≡ More n → CalledAs (convert_call t) (record { number = 41; length = 0 }) u
+  pub convert_no_more : (n : ℕ) → x ≡ Ok (More n) → (y : Result ℕ ImageError) → CalledAs image_number (convert_call t) y u
   unfolding PieceWithin
-  convert_no_more n q = absurd (true≢false (bounds (More n) q).0)
+  convert_no_more n q y = absurd (true≢false (bounds (Ok (More n)) q).0)
 
-  pub convert_ready : length t * 1 < 2 ^ 63 → 5 ≤ length t → (n : ℕ) → x.outcome ≡ Ready n → CalledAs (convert_call t) (record { number = 0; length = n }) u
+  pub convert_ready : length t * 1 < 2 ^ 63 → 5 ≤ length t → (n : ℕ) → x ≡ Ok (Ready n) → CalledAs image_number (convert_call t) (Ok n) u
   unfolding convert_call convert_call_on JudgedAs BufferAfter
   convert_ready f five n q =
-      let c = buffer (Ready n) q in
-      let j = whole (Ready n) q in
+      let c = buffer (Ok (Ready n)) q in
+      let j = whole (Ok (Ready n)) q in
       let new : with_zeros (kept_of (image_bytes t)) ≡ compacted (image_bytes t) = renewed_compacted (image_bytes t) j.0 j.1.0 j.1.1.0 j.1.1.1 in
       let sized : n ≡ length (compacted (image_bytes t)) = c.size ∙ ap length new in
-      wrote (convert_call t) n (compacted (image_bytes t)) t u (ap (λ i. convert_call_on i (image_bytes t) t) j.1.1.1) sized
+      wrote image_number (convert_call t) n (compacted (image_bytes t)) t u (ap (λ i. convert_call_on i (image_bytes t) t) j.1.1.1) sized
       (let h = c.within in omega arith) (c.bytes ∙ ap₂ (λ bs k. bs ++ drop k t) new sized)
 
-pub ruleset wholes = (may_load, convert_nothing, convert_refused, convert_no_more, convert_ready)
+pub ruleset wholes = (may_load, convert_nothing)

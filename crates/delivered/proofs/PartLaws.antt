@@ -1,6 +1,6 @@
 -- A part of a run with delivery: its plain steps in the rest of the trace, and what follows from their answer. Assumes nothing.
 use mathlib.Core.Path.{◌≡◌, refl, sym, ◌∙◌, ap, subst}
-use mathlib.Core.Bool.{true, false, true≢false}
+use mathlib.Core.Bool.{false}
 use mathlib.Core.List.{List, ◌++◌, append-nil, append_assoc, map-append}
 use Prim.Native.Nat.{ℕ, ◌+◌, ◌-◌, ◌*◌, ◌≤◌, ◌<◌}
 use native.Mathlib.Omega.{arith}
@@ -18,10 +18,8 @@ use Rattle.model.proofs.ListingLaws.{total_append}
 use Rattle.words.specs.View.{as_pointer, PointerWithin}
 use Rattle.words.specs.declared.pointer.Pointer.{Pointer}
 use Rattle.state.specs.declared.Core.{Core}
-use Rattle.state.specs.declared.End.TheVariants.{Halted}
 use Rattle.state.specs.Reply.{as_reply, ReplyWithin, completed}
 use Rattle.state.specs.declared.reply.Reply.{Reply}
-use Rattle.state.specs.declared.reply.Reply.TheVariants as Reply
 use Rattle.dispatch.specs.Plain.{plain_step}
 use Rattle.run.specs.Run.{run_by, trace_by, last_by, step_in, noted_steps, OnTheWay, AtTheEnd}
 use Rattle.run.proofs.RunLaws.{way_joins, way_ends, way_spent}
@@ -29,8 +27,10 @@ use Rattle.answers.specs.Answer.{reply_in, Replies, AnswerFits}
 use Rattle.answers.specs.declared.Answered.{Answered}
 use Rattle.answers.proofs.AnswerLaws.{reply_of_numbers, count_completed}
 use Rattle.plain.specs.Plain.{RunsPlainly}
-use Rattle.delivered.specs.Parts.{StepsAs, PartAs}
+use Rattle.delivered.specs.Parts.{StepsAs, LedTo, PartAs}
+use Rattle.std.specs.Prelude.{Option, None, Some}
 use Rattle.delivered.specs.declared.PartEnd.{PartEnd}
+use Rattle.delivered.specs.declared.RunEnd.{RunEnd}
 use Rattle.delivered.proofs.FollowLaws.{passes_with, Ahead, Whole, followed, follow}
 
 -- PLAIN STEPS noted in the rest of a trace, from start on: the count, or the trace's end where that comes first
@@ -135,18 +135,15 @@ module _ (v : Delivery) (b c : ℕ) (m : Machine) (t : List ℕ) (e : start_ques
       pub spent_fits : c + n ≤ b
       spent_fits = omega (arith, (answered (Reply.Spent n) f).0)
 
-      pub part_spent : (core : Core) → PartAs v b c 0 m t (record { core = core; reply = Reply.Spent (c + n); count = c + n; read = x.pointers; last = 0; is_last = true }) k u
+      pub part_spent : (core : Core) → PartAs v b c 0 m t (record { core = core; count = c + n; read = x.pointers; end = Some (record { reply = Reply.Spent (c + n); last = 0 }) }) k u
       part_spent core =
           let a = answered (Reply.Spent n) f in
           let i = count_same (Reply.Spent n) f in
           record {
             words = x.pointers;
             read_same = omega arith;
-            goes_on = λ g. absurd (true≢false g);
-            ends = λ _. way_spent (step_with v) v b c m t (c + n) x.pointers k u (way n i a.1) (omega (arith, a.0));
-            counted = refl;
+            led = (way_spent (step_with v) v b c m t (c + n) x.pointers k u (way n i a.1) (omega (arith, a.0)), refl, tt);
             count_within = spent_fits;
-            pointer_within = tt;
             few = few_words n i a.1.few;
           }
 
@@ -154,18 +151,15 @@ module _ (v : Delivery) (b c : ℕ) (m : Machine) (t : List ℕ) (e : start_ques
       pub halted_fits : c + n ≤ b
       halted_fits = omega (arith, (answered (Reply.Halted n) f).within_budget)
 
-      pub part_halted : (core : Core) → PartAs v b c 0 m t (record { core = core; reply = Reply.Halted (c + n); count = c + n; read = x.pointers; last = 0; is_last = true }) k u
+      pub part_halted : (core : Core) → PartAs v b c 0 m t (record { core = core; count = c + n; read = x.pointers; end = Some (record { reply = Reply.Halted (c + n); last = 0 }) }) k u
       part_halted core =
           let a = answered (Reply.Halted n) f in
           let i = count_same (Reply.Halted n) f in
           record {
             words = x.pointers;
             read_same = omega arith;
-            goes_on = λ g. absurd (true≢false g);
-            ends = λ _. whole n i a;
-            counted = refl;
+            led = (whole n i a, refl, tt);
             count_within = halted_fits;
-            pointer_within = tt;
             few = few_words n i a.few;
           }
 
@@ -186,12 +180,14 @@ module _ (v : Delivery) (b c : ℕ) (m : Machine) (t : List ℕ) (e : start_ques
         record {
           words = x.pointers + q.words;
           read_same = omega (arith, q.read_same);
-          goes_on = λ g.
-              let o = q.goes_on g in
-              (way_joins (step_with v) v b c m t (c + n) x.pointers k u (way n z a.2) y.count q.words j l o.0, omega (arith, o.1));
-          ends = λ g. way_ends (step_with v) v b c m t (c + n) x.pointers k u (way n z a.2) (as_reply y.reply) y.count q.words y.last j l (q.ends g);
-          counted = q.counted;
+          led = led_on y.end q.led;
           count_within = q.count_within;
-          pointer_within = q.pointer_within;
           few = omega (arith, q.few, few_words n z a.2.few);
         }
+      where
+        before : OnTheWay (step_with v) v b c m t (c + n) x.pointers k u
+        before = way n (count_same (Reply.Fault i n p) f) (answered (Reply.Fault i n p) f).2
+
+        led_on : (e : Option RunEnd) → LedTo v b (c + n) k u y.count q.words j l e → LedTo v b c m t y.count (x.pointers + q.words) j l e
+        led_on None o = (way_joins (step_with v) v b c m t (c + n) x.pointers k u before y.count q.words j l o.0, omega (arith, o.1))
+        led_on (Some e) o = (way_ends (step_with v) v b c m t (c + n) x.pointers k u before (as_reply e.reply) y.count q.words e.last j l o.0, o.1, o.2)

@@ -1,6 +1,7 @@
 -- The step at which plain steps stop: its pointer words, and the part that it is once it is settled. Assumes nothing.
 use mathlib.Core.Path.{◌≡◌, refl, sym, ◌∙◌, ap, subst}
-use mathlib.Core.Bool.{true, false, true≢false, false≢true}
+use mathlib.Core.Bool.{true}
+use Rattle.std.specs.Prelude.{None, Some}
 use mathlib.Core.List.{List}
 use mathlib.Core.Logic.{inl, inr}
 use Prim.Native.Nat.{ℕ, ◌+◌, ◌≤◌, ◌<◌}
@@ -104,49 +105,40 @@ module _ (v : Delivery) (b c before : ℕ) (m : Machine) (t : List ℕ) (e : sta
 
   module _ (u : List ℕ) (w : Noted c (record { ipr = k.registers.ipr; pointers = last }) t u) (core : Core) where
     pub stop_completed : y.end ≡ Completed →
-        PartAs v b c before m t (record { core = core; reply = Reply.Spent (c + 1); count = c + 1; read = before + last; last = 0; is_last = false }) k u
+        PartAs v b c before m t (record { core = core; count = c + 1; read = before + last; end = None }) k u
     stop_completed f =
         record {
           words = 0 + last;
           read_same = omega arith;
-          goes_on = λ _. (
+          led = (
             way_goes_on (step_with v) v b c m t c 0 m t starts h last (sym counted) k u w (completed_so v m e now same y k d f) (passes_completed v m e now same y k d f)
                 (subst (SizeKept (length m.memory)) (completed_so v m e now same y k d f) (step_keeps_size v m)),
             omega arith,
           );
-          ends = λ g. absurd (false≢true g);
-          counted = refl;
           count_within = omega arith;
-          pointer_within = tt;
           few = omega arith;
         }
 
     pub stop_halted : y.end ≡ Halted →
-        PartAs v b c before m t (record { core = core; reply = Reply.Halted (c + 1); count = c + 1; read = before + last; last = 0; is_last = true }) k u
+        PartAs v b c before m t (record { core = core; count = c + 1; read = before + last; end = Some (record { reply = Reply.Halted (c + 1); last = 0 }) }) k u
     stop_halted f =
         record {
           words = 0 + last;
           read_same = omega arith;
-          goes_on = λ g. absurd (true≢false g);
-          ends = λ _. way_halts (step_with v) v b c m t c 0 m t starts h last (sym counted) k u w (halted_so v m e now same y k d f) (passes_halted v m e now same y k d f);
-          counted = refl;
+          led = (way_halts (step_with v) v b c m t c 0 m t starts h last (sym counted) k u w (halted_so v m e now same y k d f) (passes_halted v m e now same y k d f), refl, tt);
           count_within = omega arith;
-          pointer_within = tt;
           few = omega arith;
         }
 
   pub stop_faulted : (n : ℕ) (p : Pointer) → y.end ≡ Faulted n p → (core : Core) →
-      PartAs v b c before m t (record { core = core; reply = Reply.Fault n c p; count = c; read = before; last = last; is_last = true }) k t
+      PartAs v b c before m t (record { core = core; count = c; read = before; end = Some (record { reply = Reply.Fault n c p; last = last }) }) k t
   unfolding ended
   stop_faulted n p f core =
       let z = ended_as v m e now same y k d (Faulted n p) f in
       record {
         words = 0;
         read_same = omega arith;
-        goes_on = λ g. absurd (true≢false g);
-        ends = λ _. way_faults (step_with v) v b c m t c 0 m t starts h last (sym counted) k n p z.0 z.1;
-        counted = refl;
+        led = (way_faults (step_with v) v b c m t c 0 m t starts h last (sym counted) k n p z.0 z.1, refl, subst EndWithin f d.within);
         count_within = omega arith;
-        pointer_within = subst EndWithin f d.within;
         few = omega arith;
       }

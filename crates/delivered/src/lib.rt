@@ -1,7 +1,7 @@
 // A run with its faults delivered and its frames taken up, in parts: plain steps, and the step at which they stop.
 #![tactic(auto)]
 
-ghost use Rattle.std.specs.Prelude.{◌≡◌, ◌*◌, ◌≤◌, ◌<◌};
+ghost use Rattle.std.specs.Prelude.{◌≡◌, Some, None, ◌*◌, ◌≤◌, ◌<◌};
 ghost use Rattle.model.specs.Registers.{no_delivery};
 ghost use Rattle.model.specs.Questions.{start_questions};
 ghost use Rattle.model.specs.Program.{faults};
@@ -19,16 +19,44 @@ use state::reply::Reply;
 use state::{Core, Delivery, End};
 use words::pointer::Pointer;
 
-// How a part ends: the run's reply so far, its completed steps, the pointer words of this part's, and of the step at which the run
-// faults; and whether it is the run's last.
+// Where a run ends: its reply, and the pointer words of the step at which it faults.
+#[derive(Clone, Copy)]
+struct RunEnd {
+    reply: Reply,
+    last: u64,
+}
+
+// What a part leaves: the completed steps of the run so far, the pointer words of this part's, and the run's end, if it is there.
 #[derive(Clone, Copy)]
 struct PartEnd {
     core: Core,
-    reply: Reply,
     count: u32,
     read: u64,
-    last: u64,
-    is_last: bool,
+    end: Option<RunEnd>,
+}
+
+// The run goes on from there.
+fn going_on(core: Core, count: u32, read: u64) -> PartEnd
+    ensures { result ≡ record { core = core; count = count; read = read; end = None } }
+{
+    PartEnd {
+        core,
+        count,
+        read,
+        end: None,
+    }
+}
+
+// It ends there.
+fn ended(core: Core, count: u32, read: u64, reply: Reply, last: u64) -> PartEnd
+    ensures { result ≡ record { core = core; count = count; read = read; end = Some (record { reply = reply; last = last }) } }
+{
+    PartEnd {
+        core,
+        count,
+        read,
+        end: Some(RunEnd { reply, last }),
+    }
 }
 
 // Where the step after `count` others is noted; the end, where there is no room.
@@ -85,38 +113,16 @@ fn stop(
     let last = words_of(core, prs, memory);
     let y = settle::settle(delivery, core, prs, memory, number, t);
     let after = y.core;
-    let end = y.end;
-    match end {
+    match y.end {
         End::Completed => {
             run::note(trace, count, after.ipr, last);
-            PartEnd {
-                core: after,
-                reply: Reply::Spent(count + 1),
-                count: count + 1,
-                read: read + last,
-                last: 0,
-                is_last: false,
-            }
+            going_on(after, count + 1, read + last)
         }
         End::Halted => {
             run::note(trace, count, after.ipr, last);
-            PartEnd {
-                core: after,
-                reply: Reply::Halted(count + 1),
-                count: count + 1,
-                read: read + last,
-                last: 0,
-                is_last: true,
-            }
+            ended(after, count + 1, read + last, Reply::Halted(count + 1), 0)
         }
-        End::Faulted(n, p) => PartEnd {
-            core: after,
-            reply: Reply::Fault(n, count, p),
-            count,
-            read,
-            last,
-            is_last: true,
-        },
+        End::Faulted(n, p) => ended(after, count, read, Reply::Fault(n, count, p), last),
     }
 }
 
@@ -136,30 +142,9 @@ fn part(
     let x = steps(core, prs, memory, count, budget, trace);
     let after = x.core;
     match answers::reply_of(x) {
-        Reply::Refused(n) => PartEnd {
-            core: after,
-            reply: Reply::Refused(n),
-            count,
-            read: 0,
-            last: 0,
-            is_last: true,
-        },
-        Reply::Spent(c) => PartEnd {
-            core: after,
-            reply: Reply::Spent(count + c),
-            count: count + c,
-            read: x.pointers,
-            last: 0,
-            is_last: true,
-        },
-        Reply::Halted(c) => PartEnd {
-            core: after,
-            reply: Reply::Halted(count + c),
-            count: count + c,
-            read: x.pointers,
-            last: 0,
-            is_last: true,
-        },
+        Reply::Refused(n) => ended(after, count, 0, Reply::Refused(n), 0),
+        Reply::Spent(c) => ended(after, count + c, x.pointers, Reply::Spent(count + c), 0),
+        Reply::Halted(c) => ended(after, count + c, x.pointers, Reply::Halted(count + c), 0),
         Reply::Fault(n, c, t) => stop(
             delivery,
             after,
@@ -187,25 +172,21 @@ pub fn run(
     requires { start_questions (as_delivery delivery) (as_machine core prs.old memory.old) ≡ 0 }
     ensures { RanAs (as_delivery delivery) (run_by (step_with (as_delivery delivery)) budget 0 (as_machine core prs.old memory.old)) result (as_machine result.core prs.new memory.new) × Traced (step_with (as_delivery delivery)) budget (as_machine core prs.old memory.old) result trace.old trace.new × Counted (step_with (as_delivery delivery)) budget (as_machine core prs.old memory.old) result }
 {
-    let mut x = PartEnd {
-        core,
-        reply: Reply::Spent(0),
-        count: 0,
-        read: 0,
-        last: 0,
-        is_last: false,
-    };
+    let mut at = core;
+    let mut count = 0;
     let mut total = 0;
-    while !x.is_last {
-        x = part(delivery, x.core, prs, memory, x.count, budget, trace);
+    loop {
+        let x = part(delivery, at, prs, memory, count, budget, trace);
         total += x.read;
-    }
-    let after = x.core;
-    let reply = x.reply;
-    Ran {
-        reply,
-        core: after,
-        total,
-        last: x.last,
+        if let Some(end) = x.end {
+            return Ran {
+                reply: end.reply,
+                core: x.core,
+                total,
+                last: end.last,
+            };
+        }
+        at = x.core;
+        count = x.count;
     }
 }

@@ -10,7 +10,7 @@ use Rattle.model.specs.Registers.{Registers, Delivery, Machine, dbr_in}
 use Rattle.model.specs.Opcodes.{Access, sets, reads, writes, updates, transfers, calls, returns, loads_dbr, ends_run, restores, Opcode}
 use Rattle.model.specs.Questions.{Question, dbr_fits, start_questions}
 use Rattle.model.specs.Program.{Program, fail, finish, look, read, Outcome, faults, completes, halts, use_answer, or_fault, execute, unless_fault, ticks}
-use Rattle.model.specs.Step.{chain, with_operand, load, store, update, transfer, check_call, call, return, if_dbr_fits, load_dbr, restore, perform, obey, step_program, step, pointer_words}
+use Rattle.model.specs.Step.{chain, with_operand, load, store, update, transfer, check_call, call, return, if_dbr_fits, load_dbr, perform, obey, step_program, step, pointer_words}
 use Rattle.model.proofs.BranchLaws.{cond_holds}
 use Rattle.model.proofs.WordLaws.{Within}
 use Rattle.model.proofs.FitLaws.{Fit, Formed}

@@ -8,6 +8,7 @@ ghost use Rattle.words.specs.View.{as_pointer, PointerWithin};
 ghost use Rattle.state.specs.View.{as_pointers, as_machine, Ready, Does};
 ghost use Rattle.dispatch.specs.Dispatch.{dispatched_in, Halts};
 
+use questions::fault::Fault;
 use state::{After, Core, End};
 use words::descriptor::Descriptor;
 use words::pointer::Pointer;
@@ -36,11 +37,10 @@ pub fn perform(
     ensures { Does core code (as_pointers prs.old) memory.old (dispatched_in (as_machine core prs.old memory.old) w (as_pointer t)) result (as_pointers prs.new) memory.new }
 {
     let ipr = core.ipr;
-    let a = core.a;
     let opcode = words::instruction::opcode(w);
     match opcode {
         1 => operations::access::load(core, code, memory, 1, t),
-        2 => operations::access::store(core, code, memory, t, a),
+        2 => operations::access::store(core, code, memory, t, core.a),
         3 => operations::access::load(core, code, memory, 3, t),
         4 => operations::access::load(core, code, memory, 4, t),
         5 => operations::access::load(core, code, memory, 5, t),
@@ -61,22 +61,22 @@ pub fn perform(
         33 => control::return_to(core, code, prs, memory, t),
         40 => {
             if core.ipr.ring != 0 {
-                return state::faulted(core, code, 33, ipr);
+                return state::faulted(core, code, Fault::Privileged, ipr);
             }
             operations::access::load_dbr(core, code, memory, t)
         }
         41 => {
             if ipr.ring != 0 { // 33 of HLT
-                return state::faulted(core, code, 33, ipr);
+                return state::faulted(core, code, Fault::Privileged, ipr);
             }
             halt(core, code)
         }
         42 => {
             if ipr.ring != 0 { // 33 of RCU
-                return state::faulted(core, code, 33, ipr);
+                return state::faulted(core, code, Fault::Privileged, ipr);
             }
-            state::faulted(core, code, 0, t) // RCU is performed outside the loop
+            state::stopped(core, code, t) // RCU is performed outside the loop
         }
-        _ => state::faulted(core, code, 32, ipr),
+        _ => state::faulted(core, code, Fault::UnknownOpcode, ipr),
     }
 }

@@ -13,9 +13,7 @@ fn print_listing(rt: &impl Print, registers: Registers, memory: &[u64]) {
 // What the image itself is refused for comes first, then 1 to 4, then the list.
 fn main(rt: HostRuntime) {
     let mut store = loading::empty_store();
-    let x = reading::image_on_input(&rt, &mut store);
-    if x.is_whole {
-        let words = x.words;
-        print_listing(&rt, x.registers, &store[..words]);
+    if let Some(start) = reading::image_on_input(&rt, &mut store) {
+        print_listing(&rt, start.registers, &store[..start.words as usize]);
     }
 }

@@ -8,7 +8,7 @@ use native.Mathlib.Numerals.{add-one}
 use native.Mathlib.Omega.{arith}
 use lib.Dec.{ltb, eqb}
 use lib.ListN.{length, get_or}
-use borrow.Author.Tests.{ltb-true}
+use borrow.Author.Tests.{ltb-true, ne_eqb}
 use Rattle.model.specs.Words.{descriptor_in}
 use Rattle.model.specs.Registers.{Machine}
 use Rattle.model.specs.Program.{descriptor_of}
@@ -16,6 +16,9 @@ use Rattle.model.specs.Reach.{segment_passes}
 use Rattle.model.specs.Doors.{Door, has_extension, leads_down, is_door, door, doors_from}
 use Rattle.model.proofs.BranchLaws.{and_left, and_right}
 use Rattle.model.proofs.WordLaws.{field_within_width}
+use Rattle.questions.specs.Numbers.{fault_number}
+use Rattle.questions.specs.declared.fault.Fault.{Fault}
+use Rattle.questions.proofs.NumberLaws.{fault_from_one}
 use Rattle.segments.specs.Translation.{descriptor_answer}
 use Rattle.segments.proofs.TranslateLaws.{segment_answer}
 use Rattle.doorways.specs.Door.{is_door_by, door_by, doors_by}
@@ -29,6 +32,15 @@ leads_down_by w b g l r2 r3 e₁ e₂ e₃ e₄ e₅ = rw (e₁, e₂, e₃, e�
 pub is_door_law : (n w a : ℕ) (b : Bool) → a ≡ descriptor_answer n w → b ≡ leads_down (descriptor_in w) → eqb a 0 && b ≡ is_door_by n w
 unfolding is_door_by
 is_door_law n w a b e f = rw (e, f)
+
+pub door_passes : (n w : ℕ) (b : Bool) → 0 ≡ descriptor_answer n w → b ≡ leads_down (descriptor_in w) → b ≡ is_door_by n w
+door_passes n w b e f = is_door_law n w 0 b e f
+
+pub door_refused : (n w : ℕ) (e : Fault) → fault_number e ≡ descriptor_answer n w → false ≡ is_door_by n w
+door_refused n w e f = ap (λ z. z && leads_down (descriptor_in w)) (sym (ne_eqb _ _ (λ z. from_one e (fault_from_one e) z))) ∙ is_door_law n w (fault_number e) (leads_down (descriptor_in w)) f refl
+  where
+    from_one : (e : Fault) → 1 ≤ fault_number e → fault_number e ≡ 0 → ⊥
+    from_one e h z = omega (arith, h, z)
 
 -- A RING has one digit
 pub r3_one_digit : (w r : ℕ) → r ≡ (descriptor_in w).r3 → r ≤ 9

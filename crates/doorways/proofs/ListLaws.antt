@@ -15,6 +15,8 @@ use Rattle.model.specs.Listing.{ascii, line, refusal_line}
 use Rattle.model.specs.Doors.{Door, doors_from, doors, door_line, door_lines, faults_line, doors_line, doors_listing, image_doors}
 use Rattle.model.proofs.BranchLaws.{and_left, and_right}
 use Rattle.model.proofs.QuestionLaws.{ask_yes}
+use Rattle.questions.specs.Numbers.{start_number}
+use Rattle.questions.specs.declared.start.StartError.{StartError}
 use Rattle.formats.proofs.ImageLaws.{checked_refused, checked_passed}
 use Rattle.text.specs.Text.{placed, Put}
 use Rattle.text.proofs.TextLaws.{placed_none, both_put}
@@ -109,6 +111,12 @@ module _ (m : Machine) (k : ℕ) (h : k ≤ m.registers.dbr.length) (g : m.regis
   all_counted c p = p ∙ ap length all_doors
 
 -- 1 TO 4, then the list
+pub start_nonzero : (error : StartError) (n : ℕ) → n ≡ start_number error → n ≡ 0 → ⊥
+start_nonzero StartError.MemoryTooLarge n e z = omega arith
+start_nonzero StartError.OutOfRange n e z = omega arith
+start_nonzero StartError.RingsBelow n e z = omega arith
+start_nonzero StartError.BaseOutsideMemory n e z = omega arith
+
 module _ (v : Delivery) (m : Machine) (n : ℕ) (e : n ≡ start_questions v m) where
   pub refused_put : (n ≡ 0 → ⊥) → (budget r : ℕ) (name t u : List ℕ) → name ≡ ascii "refused" ++ ascii " " → Put 19 0 (name ++ ended n 10) t u r →
       Put 131136 0 (image_doors (checked v m budget)) t u r

@@ -20,7 +20,10 @@ fn leads_down(d: Descriptor) -> bool
 pub fn is_door(d: Descriptor, words: usize) -> bool
     ensures { result ≡ is_door_by words d.0 }
 {
-    (descriptor_answer(d, words) == 0) & leads_down(d)
+    match descriptor_answer(d, words) {
+        Ok(()) => leads_down(d),
+        Err(_fault) => false,
+    }
 }
 
 // The last word that is a gate: below GATE, and in the segment.

@@ -44,11 +44,9 @@ fn put_doors(text: &mut [u8], registers: Registers, memory: &[u64]) -> Lines
     ensures { Put 131072 0 (door_lines (doors (machine_of registers memory.now))) text.old text.new result.next × (result.count ≡ length (doors (machine_of registers memory.now))) }
 {
     let mut lines = Lines { next: 0, count: 0 };
-    let mut segment = 0;
-    while segment < registers.dbr.length as usize {
+    for segment in 0..usize::from(registers.dbr.length) {
         let at = registers.dbr.address as usize + segment;
         lines = put_segment(text, lines, segment, Descriptor(memory[at]), memory.len());
-        segment += 1;
     }
     lines
 }
@@ -71,9 +69,8 @@ pub fn put_listing(text: &mut [u8], registers: Registers, memory: &[u64]) -> usi
     requires { 131136 ≤ length text.old }
     ensures { (budget : ℕ) → Put 131136 0 (image_doors (checked (delivery_of registers) (machine_of registers memory.now) budget)) text.old text.new result }
 {
-    let n = host::start::record_answer(registers, memory);
-    if n != 0 {
-        return put_named(text, 0, b"refused ", n as u32, 10);
+    if let Err(e) = host::start::record_answer(registers, memory) {
+        return put_named(text, 0, b"refused ", e.number() as u32, 10);
     }
     let lines = put_doors(text, registers, memory);
     let at_count = put_faults(text, lines.next, registers.delivery);

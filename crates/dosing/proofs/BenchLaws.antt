@@ -17,19 +17,25 @@ use Rattle.model.specs.Bench as Bench
 use Rattle.model.specs.Bench.{call_refused, call_wrote, bench_on, bench}
 use Rattle.state.specs.View.{as_machine}
 use Rattle.host.specs.declared.record.Registers as Host
-use Rattle.host.specs.Record.{registers_of, machine_of, delivery_of}
-use Rattle.machine.specs.declared.Prepared.{Prepared}
-use Rattle.machine.specs.Answered.{PreparedAs}
-use Rattle.machine.proofs.AskLaws.{prepared_passes}
+use Rattle.host.specs.Record.{registers_of, machine_of, delivery_of, Converted}
 use Rattle.listing.specs.Lines.{WholeListing}
 use Rattle.loading.specs.declared.Loading.{Loading}
-use Rattle.image.specs.declared.load.Loaded.{Loaded}
-use Rattle.image.specs.declared.load.LoadOutcome.TheVariants.{Refused, More, Ready}
+use Rattle.std.specs.Prelude.{Result, Ok, Err}
+use Rattle.state.specs.declared.Core.{Core}
+use Rattle.questions.specs.Numbers.{number_by, start_number}
+use Rattle.questions.specs.declared.start.StartError.{StartError}
+use Rattle.fields.specs.declared.rules.Rules.TheVariants.{Today}
+use Rattle.loading.specs.declared.error.LoadError.{LoadError}
+use Rattle.loading.specs.declared.Start.{Start}
+use Rattle.loading.specs.Record.{StartOf}
+use Rattle.image.specs.declared.load.LoadOutcome.{LoadOutcome}
+use Rattle.image.specs.declared.load.LoadOutcome.TheVariants.{More, Ready}
+use Rattle.dosing.specs.Numbers.{bench_number}
+use Rattle.dosing.specs.declared.error.BenchError.{BenchError}
 use Rattle.loading.specs.View.{rules_of, as_loading, Starts}
 use Rattle.loading.specs.Record.{outcome_image}
 use Rattle.image.specs.Load.{as_outcome, LoadedAs}
 use Rattle.image.proofs.LoadLaws.{image_loaded, may_load, words_within, loaded_delivery, loaded_full}
-use Rattle.calls.specs.declared.Called.{Called}
 use Rattle.calls.specs.Call.{CalledAs}
 use Rattle.calls.proofs.CallLaws.{refuses, wrote}
 
@@ -50,70 +56,86 @@ module _ (dv : Delivery) (b : ℕ) (t : List ℕ) (m : Machine) where
   unfolding bench_on
   on_listed h = rw (le-leb (64 * (b + 1)) (length t) h) refl
 
-module _ (b : ℕ) (t : List ℕ) (g : Host.Registers) (v : List ℕ) (x : Prepared) (v_now : List ℕ) (p : PreparedAs g v x v_now) where
-  pub not_prepared : (x.number ≡ 0 → ⊥) → CalledAs (bench_on (checked (delivery_of g) (machine_of g v) b) t) (record { number = x.number; length = 0 }) t
-  not_prepared h = refuses _ x.number t (on_refused (delivery_of g) b t (machine_of g v) x.number p.asked h) h
+start_nonzero : (error : StartError) → start_number error ≡ 0 → ⊥
+start_nonzero StartError.MemoryTooLarge e = omega arith
+start_nonzero StartError.OutOfRange e = omega arith
+start_nonzero StartError.RingsBelow e = omega arith
+start_nonzero StartError.BaseOutsideMemory e = omega arith
 
-  module _ (z : x.number ≡ 0) where
-    pub no_room : length t < 64 * (b + 1) → CalledAs (bench_on (checked (delivery_of g) (machine_of g v) b) t) (record { number = 45; length = 0 }) t
-    no_room h = refuses _ 45 t (on_passed (delivery_of g) b t (machine_of g v) x.number p.asked z ∙ on_45 (delivery_of g) b t (machine_of g v) h) (λ e. omega arith)
+module _ {A : Type 0} (b : ℕ) (t : List ℕ) (g : Host.Registers) (v : List ℕ) (x : Result A StartError)
+    (asked : number_by start_number x ≡ start_questions (delivery_of g) (machine_of g v)) where
+  pub not_started : (error : StartError) → x ≡ Err error → CalledAs bench_number (bench_on (checked (delivery_of g) (machine_of g v) b) t) (Err (BenchError.Start error)) t
+  not_started error q = refuses bench_number _ (BenchError.Start error) t (on_refused (delivery_of g) b t (machine_of g v) (start_number error) (rw q at asked) (start_nonzero error))
 
-    pub lists : (r : ℕ) (u : List ℕ) → WholeListing (delivery_of g) b (as_machine x.core x.prs v_now) t r u → 64 * (b + 1) ≤ length t → b < 4294967296 →
-        CalledAs (bench_on (checked (delivery_of g) (machine_of g v) b) t) (record { number = 0; length = r }) u
-    lists r u w h s = wrote _ r (listing (delivery_of g) b (as_machine x.core x.prs v_now)) t u listed w.size (omega (arith, w.short)) w.text_same
-      where
-        listed : bench_on (checked (delivery_of g) (machine_of g v) b) t ≡ call_wrote (listing (delivery_of g) b (as_machine x.core x.prs v_now)) t
-        listed =
-            on_passed (delivery_of g) b t (machine_of g v) x.number p.asked z ∙ on_listed (delivery_of g) b t (machine_of g v) h
-            ∙ ap (λ (k : Machine). call_wrote (listing (delivery_of g) b k) t) (sym (p.same z))
+  module _ (a : A) (q : x ≡ Ok a) where
+    passed : 0 ≡ start_questions (delivery_of g) (machine_of g v)
+    passed = rw q at asked
 
-pub ruleset answers = (not_prepared, no_room, lists, prepared_passes)
+    pub no_room : length t < 64 * (b + 1) → CalledAs bench_number (bench_on (checked (delivery_of g) (machine_of g v) b) t) (Err BenchError.TextTooShort) t
+    no_room h = refuses bench_number _ BenchError.TextTooShort t (on_passed (delivery_of g) b t (machine_of g v) 0 passed refl ∙ on_45 (delivery_of g) b t (machine_of g v) h)
+
+    module _ (c : Core) (w : Converted g c) where
+      same : as_machine c g.prs v ≡ machine_of g v
+      same = ap (λ r. record { registers = r; memory = v }) w.same
+
+      pub may_list : start_questions (delivery_of g) (as_machine c g.prs v) ≡ 0
+      may_list = ap (start_questions (delivery_of g)) same ∙ sym passed
+
+      pub lists : (r : ℕ) (u : List ℕ) → WholeListing (delivery_of g) b (as_machine c g.prs v) t r u → 64 * (b + 1) ≤ length t → b < 4294967296 →
+          CalledAs bench_number (bench_on (checked (delivery_of g) (machine_of g v) b) t) (Ok r) u
+      lists r u l h s = wrote bench_number _ r (listing (delivery_of g) b (as_machine c g.prs v)) t u listed l.size (omega (arith, l.short)) l.text_same
+        where
+          listed : bench_on (checked (delivery_of g) (machine_of g v) b) t ≡ call_wrote (listing (delivery_of g) b (as_machine c g.prs v)) t
+          listed =
+              on_passed (delivery_of g) b t (machine_of g v) 0 passed refl ∙ on_listed (delivery_of g) b t (machine_of g v) h
+              ∙ ap (λ (k : Machine). call_wrote (listing (delivery_of g) b k) t) (sym same)
+
+pub ruleset answers = (not_started, no_room, may_list, lists)
 
 -- A WHOLE IMAGE, loaded
 -- once RN has come, ME and ST have
-module _ (l : Loading) (v bs : List ℕ) (x : Loaded) (k : List ℕ) (z : v ≡ replicate 8320 0) (w : LoadedAs l v bs true x k) (b : ℕ) (o : x.outcome ≡ Ready b) where
+module _ (l : Loading) (v bs : List ℕ) (x : Result LoadOutcome LoadError) (j : Loading) (k : List ℕ) (z : v ≡ replicate 8320 0) (w : LoadedAs l v bs true x j k) (s : Start) (o : x ≡ Ok (Ready s)) where
   full : length k ≡ 8320
   full = w.size_same ∙ ap length z ∙ length-replicate {A = ℕ} 8320 0
 
-  ready_memory : x.loading.has_memory ≡ true
-  ready_memory = (rw o at w).outcome_within.1
+  ready : StartOf j s
+  ready = (rw o at w).outcome_within.1
 
-  ready_registers : x.loading.has_registers ≡ true
-  ready_registers = (rw o at w).outcome_within.2
+  pub ready_words : s.words ≤ length k
+  ready_words = words_within j k s ready w.within full
 
-  pub ready_words : x.loading.words ≤ length k
-  ready_words = words_within x.loading k w.within full ready_memory
+  pub ready_part : s.words ≡ length (take s.words k)
+  ready_part = sym (length-take-le s.words k ready_words)
 
-  pub ready_part : x.loading.words ≡ length (take x.loading.words k)
-  ready_part = sym (length-take-le x.loading.words k ready_words)
+  ready_delivery : (as_loading j k).delivery ≡ delivery_of s.registers
+  ready_delivery = loaded_delivery j k s ready
 
-  ready_machine : Image.machine_of (as_loading x.loading k) ≡ record { registers = registers_of x.loading.registers; memory = take x.loading.words k }
-  ready_machine = loaded_full x.loading k full ready_memory ready_registers
+  ready_machine : Image.machine_of (as_loading j k) ≡ record { registers = registers_of s.registers; memory = take s.words k }
+  ready_machine = loaded_full j k s ready full
 
-module _ (l : Loading) (v bs t : List ℕ) (x : Loaded) (k : List ℕ) (s : Starts false l) (z : v ≡ replicate 8320 0) (w : LoadedAs l v bs true x k) where
+module _ (l : Loading) (v bs t : List ℕ) (x : Result LoadOutcome LoadError) (j : Loading) (k : List ℕ) (s : Starts Today l) (z : v ≡ replicate 8320 0) (w : LoadedAs l v bs true x j k) where
   starts_empty : as_loading l v ≡ Image.nothing_loaded Image.today
   unfolding Starts rules_of
   starts_empty = (s v z).1
 
-  whole : image bs ≡ outcome_image (as_outcome x.outcome) (as_loading x.loading k) bs []
-  whole = image_loaded (as_loading l v) bs (as_outcome x.outcome) (as_loading x.loading k) starts_empty w.goes
+  whole : image bs ≡ outcome_image (as_outcome x) (as_loading j k) bs []
+  whole = image_loaded (as_loading l v) bs (as_outcome x) (as_loading j k) starts_empty w.goes
 
-  pub image_refused : (n : ℕ) → x.outcome ≡ Refused n → CalledAs (bench bs t) (record { number = n; length = 0 }) t
+  pub image_refused : (error : LoadError) → x ≡ Err error → CalledAs bench_number (bench bs t) (Err (BenchError.Load error)) t
   unfolding bench outcome_image bench_on
-  image_refused n o =
-      refuses _ n t (ap (λ i. bench_on i t) (whole ∙ ap (λ o. outcome_image (as_outcome o) (as_loading x.loading k) bs []) o))
-      (λ e. let h = (rw o at w).outcome_within in omega arith)
+  image_refused error o =
+      refuses bench_number _ (BenchError.Load error) t (ap (λ i. bench_on i t) (whole ∙ ap (λ o. outcome_image (as_outcome o) (as_loading j k) bs []) o))
 
   -- a whole image leaves no bytes over
-  pub no_more : (n : ℕ) → x.outcome ≡ More n → CalledAs (bench bs t) (record { number = 41; length = 0 }) t
-  no_more n o = absurd (false≢true (sym (rw o at w).outcome_within.0))
+  pub no_more : (n : ℕ) → x ≡ Ok (More n) → (y : Result ℕ BenchError) → CalledAs bench_number (bench bs t) y t
+  no_more n o y = absurd (false≢true (sym (rw o at w).outcome_within.0))
 
-  pub image_listed : (b : ℕ) → x.outcome ≡ Ready b → (y : Called) (u : List ℕ) →
-      CalledAs (bench_on (checked (delivery_of x.loading.registers) (record { registers = registers_of x.loading.registers; memory = take x.loading.words k }) b) t) y u →
-      CalledAs (bench bs t) y u
+  pub image_listed : (start : Start) → x ≡ Ok (Ready start) → (y : Result ℕ BenchError) (u : List ℕ) →
+      CalledAs bench_number (bench_on (checked (delivery_of start.registers) (record { registers = registers_of start.registers; memory = take start.words k }) start.budget) t) y u →
+      CalledAs bench_number (bench bs t) y u
   unfolding bench outcome_image
-  image_listed b o y u =
-      subst (λ (i : Image.Image). CalledAs (bench_on i t) y u)
-      (sym (whole ∙ ap (λ o. outcome_image (as_outcome o) (as_loading x.loading k) bs []) o ∙ ap₂ (λ d m. checked d m b) (loaded_delivery x.loading k) (ready_machine l v bs x k z w b o)))
+  image_listed start o y u =
+      subst (λ (i : Image.Image). CalledAs bench_number (bench_on i t) y u)
+      (sym (whole ∙ ap (λ o. outcome_image (as_outcome o) (as_loading j k) bs []) o ∙ ap₂ (λ d m. checked d m start.budget) (ready_delivery l v bs x j k z w start o) (ready_machine l v bs x j k z w start o)))
 
 pub ruleset whole_image = (may_load, ready_words, ready_part, image_refused, no_more, image_listed)

@@ -5,55 +5,50 @@ ghost use Rattle.model.specs.Image.{checked};
 ghost use Rattle.model.specs.Bench as Bench;
 ghost use Rattle.host.specs.Record.{machine_of, delivery_of};
 ghost use Rattle.calls.specs.Call.{CalledAs};
+ghost use Rattle.dosing.specs.Numbers.{bench_number};
 
-use calls::Called;
-use host::record::Registers;
-use image::load::LoadOutcome;
+use crate::error::BenchError;
+use fields::rules::Rules;
+use host::record::{Registers, core_of};
+use host::start::record_answer;
+use image::load::{LoadOutcome, load};
+use listing::list_whole;
+use loading::error::LoadError;
+use loading::{empty_store, nothing_loaded};
 
-// What an image gave, run whole: 1 to 4, then 45, then the listing.
-pub fn list_loaded(registers: Registers, memory: &mut [u64], budget: u32, text: &mut [u8]) -> Called
-    ensures { CalledAs (Bench.bench_on (checked (delivery_of registers) (machine_of registers memory.old) budget) text.old) result text.new }
+pub mod error;
+
+// What an image gave, run whole: 1 to 4, then 45, then the listing, and how long it is.
+#[tactic(auto, using(crate::proofs::BenchLaws::answers))]
+pub fn list_loaded(
+    registers: Registers,
+    memory: &mut [u64],
+    budget: u32,
+    text: &mut [u8],
+) -> Result<usize, BenchError>
+    ensures { CalledAs bench_number (Bench.bench_on (checked (delivery_of registers) (machine_of registers memory.old) budget) text.old) result text.new }
 {
-    let x = machine::prepare(registers, memory);
-    if x.number != 0 {
-        return Called {
-            number: x.number,
-            length: 0,
-        };
-    }
+    record_answer(registers, memory)?;
     if text.len() < 64 * (budget as usize + 1) {
-        return Called {
-            number: 45,
-            length: 0,
-        };
+        return Err(BenchError::TextTooShort);
     }
-    let prs = x.prs;
-    Called {
-        number: 0,
-        length: listing::list_whole(registers.delivery, x.core, prs, memory, budget, text),
-    }
+    let core = core_of(registers);
+    let prs = registers.prs;
+    Ok(list_whole(registers.delivery, core, prs, memory, budget, text))
 }
 
-pub fn bench(image: &[u8], text: &mut [u8]) -> Called
-    ensures { CalledAs (Bench.bench image.now text.old) result text.new }
+#[tactic(auto, using(crate::proofs::BenchLaws::whole_image))]
+pub fn bench(image: &[u8], text: &mut [u8]) -> Result<usize, BenchError>
+    ensures { CalledAs bench_number (Bench.bench image.now text.old) result text.new }
 {
-    let mut store = loading::empty_store();
-    let x = image::load::load(loading::nothing_loaded(false), &mut store, image, true);
-    let loading = x.loading;
-    let outcome = x.outcome;
+    let mut store = empty_store();
+    let mut loading = nothing_loaded(Rules::Today);
+    let outcome = load(&mut loading, &mut store, image, true)?;
     match outcome {
-        LoadOutcome::Refused(n) => Called {
-            number: n,
-            length: 0,
-        },
-        LoadOutcome::More(_used) => Called {
-            number: 41,
-            length: 0,
-        },
-        LoadOutcome::Ready(budget) => {
-            let words = loading.words as usize;
-            let registers = loading.registers;
-            list_loaded(registers, &mut store[..words], budget, text)
+        LoadOutcome::More(_used) => Err(BenchError::Load(LoadError::CutShort)),
+        LoadOutcome::Ready(start) => {
+            let words = start.words as usize;
+            list_loaded(start.registers, &mut store[..words], start.budget, text)
         }
     }
 }

@@ -17,7 +17,7 @@ fn put_counted(text: &mut [u8], at: usize, name: &[u8], count: u32, total: u64) 
     requires { (at + 40 ≤ length text.old) × (length name.now ≤ 8) }
     ensures { Put 40 at (name.now ++ ((decimal count ++ 32 ∷ []) ++ (decimal total ++ 10 ∷ []))) text.old text.new result }
 {
-    let at_total = put_named(text, at, name, count, 32);
+    let at_total = put_named(text, at, name, count, b' ');
     put_total(text, at_total, total)
 }
 
@@ -27,8 +27,8 @@ fn put_fault_line(text: &mut [u8], at: usize, n: u8, count: u32, t: Pointer, tot
     ensures { Put 64 at (last_line (fault n count (as_pointer t)) total) text.old text.new result }
 {
     let at_number = put_bytes(text, at, b"fault ");
-    let at_count = put_short(text, at_number, n as u64, 32);
-    let at_ring = put_number(text, at_count, count, 32);
+    let at_count = put_short(text, at_number, n as u64, b' ');
+    let at_ring = put_number(text, at_count, count, b' ');
     let at_total = put_pointer(text, at_ring, t.ring, t.segment.0, t.word.0);
     put_total(text, at_total, total)
 }
@@ -39,7 +39,7 @@ pub fn put_last_line(text: &mut [u8], at: usize, reply: Reply, total: u64) -> us
     ensures { Put 64 at (last_line (as_reply reply) total) text.old text.new result }
 {
     match reply {
-        Reply::Refused(n) => put_named(text, at, b"refused ", n as u32, 10),
+        Reply::Refused(n) => put_named(text, at, b"refused ", n as u32, b'\n'),
         Reply::Spent(count) => put_counted(text, at, b"spent ", count, total),
         Reply::Halted(count) => put_counted(text, at, b"halted ", count, total),
         Reply::Fault(n, count, t) => put_fault_line(text, at, n, count, t, total),

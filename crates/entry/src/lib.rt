@@ -4,7 +4,9 @@
 ghost use Rattle.state.specs.View.{as_delivery};
 ghost use Rattle.entry.specs.Call.{together, CoreSays, CallSays};
 
+use answers::Kind;
 use host::record::{DescriptorBase, Pointer, Registers};
+use segments::translate::Dbr;
 use state::{Core, Delivery};
 
 // An answer as numbers. Kinds: 0 refused, 1 spent or completed, 2 halted, 3 fault; what a kind leaves free is 0. Pointer words are
@@ -43,7 +45,7 @@ fn run_core(
     let mut none: [u64; 0] = [];
     if single & (budget == 1) & host::start::is_delivery(delivery) {
         let mut x = plain::step(core, prs, memory);
-        if x.kind == 3 {
+        if x.kind == Kind::Fault {
             x = machine::run(
                 x.core.a,
                 x.core.dbr.address,
@@ -90,8 +92,8 @@ fn run_fields(
 ) -> Answered
     ensures { CallSays single budget (together a dbr ipr delivery prs.old) memory.old result.answer (together result.a result.dbr result.ipr delivery prs.new) memory.new }
 {
-    let base = host::record::to_base(dbr);
-    let at = host::record::to_core(ipr);
+    let base = Dbr::from(dbr);
+    let at = words::pointer::Pointer::from(ipr);
     let core = Core {
         a,
         dbr: base,
@@ -100,7 +102,7 @@ fn run_fields(
     let x = run_core(prs, memory, core, delivery, budget, single);
     Answered {
         answer: Answer {
-            kind: x.kind as u32,
+            kind: u32::from(x.kind),
             number: x.number as u32,
             count: x.count as u32,
             pointer: host::record::from_core(x.pointer),

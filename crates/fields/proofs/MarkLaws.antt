@@ -2,14 +2,18 @@
 use mathlib.Core.Path.{◌≡◌, refl, sym, ◌∙◌, ap}
 use mathlib.Core.Bool.{Bool, true, false, ◌&&◌}
 use mathlib.Core.List.{List, [], ◌∷◌, ◌++◌}
-use mathlib.Core.Option.{Option, none, some}
-use Prim.Native.Nat.{ℕ, ◌+◌, ◌≤◌, ◌<◌}
+use mathlib.Core.Option as Model
+use mathlib.Core.Option.{none, some}
+use Rattle.std.specs.Prelude.{Option, Some}
+use Prim.Native.Nat.{ℕ, ◌≤◌, ◌<◌}
 use native.Mathlib.Omega.{arith}
 use lib.Dec.{eqb}
 use lib.ListN.{length, get_or, take, get_or-append}
 use lib.Seq.{get_or-take}
 use Rattle.model.specs.Image.{Rules, Mark, ME, ST, WD, RN, marked, mark_of, start_size}
 use Rattle.fields.specs.declared.mark.Mark as Code
+use Rattle.fields.specs.declared.rules.Rules as CodeRules
+use Rattle.fields.specs.declared.rules.Rules.TheVariants.{Today, Stored}
 use Rattle.fields.specs.declared.mark.Mark.TheVariants.{Start}
 use Rattle.fields.specs.Mark.{size_of}
 use Rattle.fields.specs.Rules.{rules_of}
@@ -40,7 +44,7 @@ module _ (x y : ℕ) where
         no_mark e = sym (rw (not_me, not_st, not_wd, e))
 
 -- of two bytes at least the first two decide, and of fewer none is known
-pub same_mark : (x : Option Mark) (bs : List ℕ) → x ≡ mark_of (get_or bs 0 0 ∷ get_or bs 1 0 ∷ []) → x ≡ mark_of bs
+pub same_mark : (x : Model.Option Mark) (bs : List ℕ) → x ≡ mark_of (get_or bs 0 0 ∷ get_or bs 1 0 ∷ []) → x ≡ mark_of bs
 unfolding mark_of marked
 same_mark x bs e = e
 
@@ -63,28 +67,19 @@ unfolding mark_of marked
 mark_of_front bs rest h = rw (get_or-append bs rest 0 0 (omega arith), get_or-append bs rest 0 1 (omega arith))
 
 -- THE SIZE OF ST by the rules
-module _ (is_stored : Bool) where
-  pub stored_start : is_stored ≡ true → 61 ≡ start_size (rules_of is_stored)
-  unfolding start_size rules_of
-  stored_start e = sym (rw e)
-
-  pub todays_start : is_stored ≡ false → 66 ≡ start_size (rules_of is_stored)
-  unfolding start_size rules_of
-  todays_start e = sym (rw e)
-
-pub start_has_registers : (is_stored : Bool) → 61 ≤ start_size (rules_of is_stored)
+pub start_has_registers : (v : CodeRules.Rules) → 61 ≤ start_size (rules_of v)
 unfolding start_size rules_of
-start_has_registers true = omega arith
-start_has_registers false = omega arith
+start_has_registers Stored = omega arith
+start_has_registers Today = omega arith
 
-pub start_within : (is_stored : Bool) → start_size (rules_of is_stored) ≤ 66
+pub start_within : (v : CodeRules.Rules) → start_size (rules_of v) ≤ 66
 unfolding start_size rules_of
-start_within true = omega arith
-start_within false = omega arith
+start_within Stored = omega arith
+start_within Today = omega arith
 
-pub start_sized : (v : Rules) (k : Code.Mark) (n : ℕ) → k ≡ Start → n ≡ start_size v → n ≡ size_of v k
+pub start_sized : (v : Rules) (k : Option Code.Mark) (n : ℕ) → k ≡ Some Start → n ≡ start_size v → n ≡ size_of v k
 start_sized v k n e q = q ∙ ap (size_of v) (sym e)
 
-pub ruleset start_sizes = (stored_start, todays_start, start_sized)
+pub ruleset start_sizes = (start_sized)
 
 pub ruleset marks = (me_mark, st_mark, wd_mark, rn_mark, no_mark, same_mark, short_mark)

@@ -1,6 +1,5 @@
 -- The registers in an ST record, field by field. Assumes nothing.
 use mathlib.Core.Path.{◌≡◌, refl, sym, ◌∙◌, ap}
-use mathlib.Core.Bool.{Bool, true, false}
 use mathlib.Core.List.{List, [], ◌∷◌, ◌++◌}
 use Prim.Native.Nat.{ℕ, zero, suc, ◌+◌, ◌*◌, ◌≤◌, ◌<◌}
 use native.Mathlib.Numerals.{add-one}
@@ -12,7 +11,8 @@ use Rattle.model.specs.Registers.{Registers, Delivery, no_delivery}
 use Rattle.model.specs.Image.{start_size, number_at, pointer_at, pointers_at, registers_at, delivery_at}
 use Rattle.state.specs.View.{pointers_in, as_pointers}
 use Rattle.fields.specs.Rules.{rules_of}
-use Rattle.fields.proofs.MarkLaws.{todays_start, start_has_registers}
+use Rattle.fields.specs.declared.rules.Rules.{Rules}
+use Rattle.fields.specs.declared.rules.Rules.TheVariants.{Today, Stored}
 
 pub pointer_read : (a n s i : ℕ) (bs : List ℕ) → n ≡ number_at a 1 bs → s ≡ number_at (a + 1) 2 bs → i ≡ number_at (a + 3) 2 bs →
     ◌≡◌ {A = Pointer} (record { ring = n; segment = s; word = i }) (pointer_at a bs)
@@ -56,22 +56,20 @@ unfolding registers_at
 registers_read bs a b l p ps e f g h i = rw (e, f, g, h, i)
 
 -- WHAT FAULTS DO, by the rules
-module _ (is_stored : Bool) (bs : List ℕ) where
-  pub none_delivered : is_stored ≡ true → no_delivery ≡ delivery_at (rules_of is_stored) bs
+module _ (v : Rules) (bs : List ℕ) where
+  pub none_delivered : v ≡ Stored → no_delivery ≡ delivery_at (rules_of v) bs
   unfolding rules_of delivery_at
   none_delivered e = sym (rw e)
 
-  pub delivery_read : is_stored ≡ false → (n s i : ℕ) → n ≡ number_at 61 1 bs → s ≡ number_at 62 2 bs → i ≡ number_at 64 2 bs →
-      ◌≡◌ {A = Delivery} (record { switch = n; save = s; handler = i }) (delivery_at (rules_of is_stored) bs)
+  pub delivery_read : v ≡ Today → (n s i : ℕ) → n ≡ number_at 61 1 bs → s ≡ number_at 62 2 bs → i ≡ number_at 64 2 bs →
+      ◌≡◌ {A = Delivery} (record { switch = n; save = s; handler = i }) (delivery_at (rules_of v) bs)
   unfolding rules_of delivery_at
   delivery_read e n s i f g h = rw (e, f, g, h)
 
-  module _ (whole : start_size (rules_of is_stored) ≤ length bs) where
-    pub registers_within : (n : ℕ) → n ≤ 61 → n ≤ length bs
-    registers_within n h = let y = start_has_registers is_stored in omega arith
-
-    pub delivery_within : is_stored ≡ false → (n : ℕ) → n ≤ 66 → n ≤ length bs
-    delivery_within e n h = let y = todays_start is_stored e in omega arith
+  module _ (whole : start_size (rules_of v) ≤ length bs) where
+    pub delivery_within : v ≡ Today → (n : ℕ) → n ≤ 66 → n ≤ length bs
+    unfolding rules_of start_size
+    delivery_within e n h = let y = rw e at whole in omega arith
 
 pub ruleset registers_in = (pointer_read, one_more_read, prs_read, registers_read)
 

@@ -4,3 +4,4 @@
 pub mod mark;
 pub mod number;
 pub mod registers;
+pub mod rules;

@@ -7,9 +7,11 @@ ghost use Rattle.host.specs.Record.{pointer_of, registers_of, delivery_of};
 ghost use Rattle.fields.specs.Rules.{rules_of};
 
 use crate::number::{number_1, number_2, number_4, number_8};
+use crate::rules::Rules;
 use host::record::{DescriptorBase, Pointer, Registers};
 use state::Delivery;
 
+#[tactic(auto, using(crate::proofs::RegisterLaws::registers_in))]
 pub fn pointer_at(bytes: &[u8], at: usize) -> Pointer
     requires { at + 5 ≤ length bytes.now }
     ensures { pointer_of result ≡ pointer_at at bytes.now }
@@ -21,42 +23,39 @@ pub fn pointer_at(bytes: &[u8], at: usize) -> Pointer
     }
 }
 
+#[tactic(auto, using(crate::proofs::RegisterLaws::registers_in))]
 pub fn prs_at(bytes: &[u8]) -> [u16; 24]
     requires { 61 ≤ length bytes.now }
     ensures { as_pointers result ≡ pointers_at 8 21 bytes.now }
 {
     let mut prs: [u16; 24] = [0; 24];
-    let mut k: usize = 0;
-    while k < 8 {
+    for k in 0..8 {
         let p = pointer_at(bytes, 21 + 5 * k);
-        state::prs::set_pr(&mut prs, k, host::record::to_core(p));
-        k += 1;
+        state::prs::set_pr(&mut prs, k, words::pointer::Pointer::from(p));
     }
     prs
 }
 
 // No switch is on for a stored image.
-pub fn delivery_at(bytes: &[u8], is_stored: bool) -> Delivery
-    requires { start_size (rules_of is_stored) ≤ length bytes.now }
-    ensures { as_delivery result ≡ delivery_at (rules_of is_stored) bytes.now }
+#[tactic(auto, using(crate::proofs::RegisterLaws::delivery_in))]
+pub fn delivery_at(bytes: &[u8], rules: Rules) -> Delivery
+    requires { start_size (rules_of rules) ≤ length bytes.now }
+    ensures { as_delivery result ≡ delivery_at (rules_of rules) bytes.now }
 {
-    if is_stored {
-        return Delivery {
-            switch: 0,
-            save: 0,
-            handler: 0,
-        };
-    }
-    Delivery {
-        switch: number_1(bytes, 61) as u16,
-        save: number_2(bytes, 62),
-        handler: number_2(bytes, 64),
+    match rules {
+        Rules::Today => Delivery {
+            switch: number_1(bytes, 61) as u16,
+            save: number_2(bytes, 62),
+            handler: number_2(bytes, 64),
+        },
+        Rules::Stored => Delivery::default(),
     }
 }
 
-pub fn registers_at(bytes: &[u8], is_stored: bool) -> Registers
-    requires { start_size (rules_of is_stored) ≤ length bytes.now }
-    ensures { (registers_of result ≡ registers_at bytes.now) × (delivery_of result ≡ delivery_at (rules_of is_stored) bytes.now) }
+#[tactic(auto, using(crate::proofs::RegisterLaws::registers_read, crate::proofs::MarkLaws::start_has_registers))]
+pub fn registers_at(bytes: &[u8], rules: Rules) -> Registers
+    requires { start_size (rules_of rules) ≤ length bytes.now }
+    ensures { (registers_of result ≡ registers_at bytes.now) × (delivery_of result ≡ delivery_at (rules_of rules) bytes.now) }
 {
     Registers {
         a: number_8(bytes, 2),
@@ -66,6 +65,6 @@ pub fn registers_at(bytes: &[u8], is_stored: bool) -> Registers
         },
         ipr: pointer_at(bytes, 16),
         prs: prs_at(bytes),
-        delivery: delivery_at(bytes, is_stored),
+        delivery: delivery_at(bytes, rules),
     }
 }

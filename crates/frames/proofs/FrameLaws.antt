@@ -1,12 +1,6 @@
 -- A frame's words, and the frame written word by word. Assumes nothing.
-use mathlib.Core.Path.{◌≡◌, refl, sym, ◌∙◌, ap}
-use mathlib.Core.Bool.{Bool, true, false, true≢false}
-use mathlib.Core.List.{List, [], ◌∷◌, map}
-use Prim.Native.Nat.{ℕ, zero, suc, ◌+◌, ◌*◌, ◌-◌, ◌^◌, ◌≤◌, ◌<◌}
-use native.Mathlib.Numerals.{add-one}
-use native.Mathlib.Omega.{arith}
-use lib.ListN.{length, get_or, set, take, length-map}
-use lib.Seq.{take-length}
+use Rattle.std.proofs.Common.{◌≡◌, ℕ, zero, suc, ◌+◌, ◌*◌, ◌-◌, ◌≤◌, ◌<◌, Bool, true, false, true≢false, List, [], ◌∷◌, map, length, get_or, set, take, Option, Some, None, refl, sym, ap, ◌∙◌, add-one, arith}
+use Rattle.std.proofs.Math.Seq.{take-length}
 use Rattle.model.specs.Words as Words
 use Rattle.model.specs.Words.{pointer_word}
 use Rattle.model.specs.Registers.{Registers, Delivery, machine, dbr_word, zero_pointer}
@@ -21,35 +15,10 @@ use Rattle.words.specs.declared.pointer.Pointer.{Pointer}
 use Rattle.segments.specs.Translation.{descriptor_word}
 use Rattle.state.specs.View.{pointers_in, as_pointers, pr_of, as_registers, as_machine}
 use Rattle.state.specs.declared.Core.{Core}
+use Rattle.operations.proofs.RegisterLaws.{pr_within}
 use Rattle.frames.specs.Frame.{Savable, SavesIn, saves, Delivers}
-use Rattle.frames.specs.declared.Saves.{Saves}
-use Rattle.frames.specs.declared.Saves.TheVariants.{No, In}
 
--- WORD BY WORD
-module _ (c : Core) (prs : List ℕ) (n : ℕ) (t : Words.Pointer) (i w : ℕ) where
-  abbrev whole : List ℕ
-  whole = frame n t (as_registers c prs)
-
-  pub word_0 : i ≡ 0 → w ≡ n → w ≡ get_or whole i 0
-  unfolding frame
-  word_0 e f = f ∙ rw e
-
-  pub word_1 : i ≡ 1 → w ≡ pointer_word t → w ≡ get_or whole i 0
-  unfolding frame
-  word_1 e f = f ∙ rw e
-
-  pub word_2 : i ≡ 2 → w ≡ c.a → w ≡ get_or whole i 0
-  unfolding frame
-  word_2 e f = f ∙ rw e
-
-  pub word_3 : i ≡ 3 → w ≡ c.dbr.address + 16777216 * c.dbr.length → w ≡ get_or whole i 0
-  unfolding frame dbr_word
-  word_3 e f = f ∙ rw e
-
-  pub word_4 : i ≡ 4 → w ≡ pointer_word (as_pointer c.ipr) → w ≡ get_or whole i 0
-  unfolding frame
-  word_4 e f = f ∙ rw e
-
+-- A PR'S WORD
 mapped_at : (ps : List Words.Pointer) (k : ℕ) → k < length ps → get_or (map pointer_word ps) k 0 ≡ pointer_word (get_or ps k zero_pointer)
 mapped_at [] k h = absurd (omega arith)
 mapped_at (p ∷ ps) zero h = refl
@@ -67,20 +36,7 @@ module _ (c : Core) (prs : List ℕ) (n : ℕ) (t : Words.Pointer) (i w : ℕ) w
       f ∙ ap pointer_word e ∙ sym (mapped_at (as_pointers prs) (i - 5) (omega arith))
       ∙ sym (further (map pointer_word (as_pointers prs)) n (pointer_word t) c.a (dbr_word (record { address = c.dbr.address; length = c.dbr.length })) (pointer_word (as_pointer c.ipr)) i (omega arith))
 
--- a PR is in range
-pub pr_savable : (c : Core) (prs : List ℕ) (k : ℕ) (p : Pointer) → Savable c prs → as_pointer p ≡ pr_of prs k → PointerWithin p
-unfolding pr_of pointer_in_range
-pr_savable c prs k p s e =
-    let h = in_range_within (get_or (as_pointers prs) k zero_pointer) (all_get pointer_in_range (as_pointers prs) k zero_pointer s.prs_in_range refl) in
-    let x = ap (λ (q : Words.Pointer). q.ring) e in
-    let y = ap (λ (q : Words.Pointer). q.segment) e in
-    let z = ap (λ (q : Words.Pointer). q.word) e in
-    let a = h.ring_within in
-    let b = h.segment_within in
-    let d = h.word_within in
-    record { ring_within = omega (arith, x, a); segment_within = omega (arith, y, b); word_within = omega (arith, z, d) }
-
-pub ruleset frame_words = (word_0, word_1, word_2, word_3, word_4, word_of_pr, pr_savable)
+pub ruleset pr_words = (word_of_pr, pr_within)
 
 -- THE FRAME WRITTEN, one word more each turn
 one_word_more : (a i : ℕ) (ws m : List ℕ) → i < length ws → with_words a (take (suc i) ws) m ≡ set (with_words a (take i ws) m) (a + i) (get_or ws i 0)
@@ -113,13 +69,13 @@ module _ (c : Core) (prs : List ℕ) (n : ℕ) (t : Words.Pointer) (a : ℕ) (m 
 pub ruleset frame_writes = (nothing_written, written_more, all_written)
 
 -- DELIVERED OR NOT
-module _ (v : Delivery) (c : Core) (prs m : List ℕ) (n : ℕ) (t : Words.Pointer) (y : Saves) (s : saves v c m y) where
-  pub not_delivered : y ≡ No → Delivers v n t (as_machine c prs m) false m
+module _ (v : Delivery) (c : Core) (prs m : List ℕ) (n : ℕ) (t : Words.Pointer) (y : Option Descriptor) (s : saves v c m y) where
+  pub not_delivered : y ≡ None → Delivers v n t (as_machine c prs m) false m
   not_delivered e =
       let h = rw e at s in
       record { same = sym (h (as_pointers prs)); written = λ q. absurd (true≢false (sym q)); kept = λ _. refl }
 
-  pub is_delivered : (d : Descriptor) (start : ℕ) (u : List ℕ) → y ≡ In d → start ≡ (Words.descriptor_in d.0).address → u ≡ with_words start (frame n t (as_registers c prs)) m →
+  pub is_delivered : (d : Descriptor) (start : ℕ) (u : List ℕ) → y ≡ Some d → start ≡ (Words.descriptor_in d.0).address → u ≡ with_words start (frame n t (as_registers c prs)) m →
       Delivers v n t (as_machine c prs m) true u
   unfolding saved machine descriptor_of descriptor_word
   is_delivered d start u g e f =
@@ -131,7 +87,7 @@ module _ (v : Delivery) (c : Core) (prs m : List ℕ) (n : ℕ) (t : Words.Point
       }
 
 -- the save segment has room for the frame
-pub room_for_frame : (v : Delivery) (c : Core) (m : List ℕ) (y : Saves) (d : Descriptor) (start : ℕ) → saves v c m y → y ≡ In d → start ≡ (Words.descriptor_in d.0).address →
+pub room_for_frame : (v : Delivery) (c : Core) (m : List ℕ) (y : Option Descriptor) (d : Descriptor) (start : ℕ) → saves v c m y → y ≡ Some d → start ≡ (Words.descriptor_in d.0).address →
     start + 13 ≤ length m
 room_for_frame v c m y d start s g e = let h = (rw g at s).fits in omega (arith, h, e)
 

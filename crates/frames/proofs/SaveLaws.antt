@@ -1,12 +1,6 @@
 -- Whether a fault is delivered, one law for each answer, from facts as the code's tests give them. Assumes nothing.
-use mathlib.Core.Path.{◌≡◌, refl, sym, ◌∙◌, ap}
-use mathlib.Core.Bool.{Bool, true, false, ◌&&◌}
-use mathlib.Core.List.{List}
-use Prim.Native.Nat.{ℕ, zero, suc, ◌+◌, ◌≤◌, ◌<◌}
-use native.Mathlib.Omega.{arith}
-use lib.Dec.{ltb, leb, eqb}
-use lib.ListN.{length}
-use borrow.Author.Tests.{lt-ltb, ltb-true, leb-true, le-leb, ne_eqb}
+use Rattle.std.proofs.Common.{◌≡◌, ℕ, zero, suc, ◌+◌, ◌≤◌, ◌<◌, Bool, true, false, ◌&&◌, List, length, Option, Result, Ok, Err, refl, sym, ap, ◌∙◌, arith, ltb, leb, eqb, lt-ltb, ltb-true, leb-true, le-leb, ne_eqb}
+use Rattle.std.specs.Result.{result_ok}
 use Rattle.model.specs.Words as Words
 use Rattle.model.specs.Words.{Pointer, descriptor_in}
 use Rattle.model.specs.Registers.{Delivery}
@@ -17,13 +11,14 @@ use Rattle.model.specs.Program.{descriptor_of}
 use Rattle.model.specs.Reach.{segment_passes}
 use Rattle.model.specs.Deliver.{can_save, delivers}
 use Rattle.words.specs.declared.descriptor.Descriptor.{Descriptor}
+use Rattle.questions.specs.declared.fault.Fault.{Fault}
+use Rattle.questions.specs.Numbers.{fault_number}
+use Rattle.questions.proofs.NumberLaws.{fault_from_one}
 use Rattle.segments.specs.Translation.{as_dbr, descriptor_word, use_at, use_by, Looks, looked}
-use Rattle.segments.specs.declared.translate.Translated.{Translated}
-use Rattle.segments.specs.declared.translate.Translated.TheVariants.{Refused, Passed}
 use Rattle.segments.proofs.UseLaws.{looks_passes}
 use Rattle.state.specs.View.{machine_with}
 use Rattle.state.specs.declared.Core.{Core}
-use Rattle.frames.specs.Frame.{SavesIn}
+use Rattle.frames.specs.Frame.{SavesIn, saves}
 
 -- the tests in the code's order: the switch, 11 to 14, LENGTH and W
 module _ (v : Delivery) (c : Core) (m : List ℕ) (ps : List Pointer) where
@@ -55,7 +50,7 @@ module _ (v : Delivery) (c : Core) (m : List ℕ) where
   switched_off h ps = by_parts v c m ps ∙ rw (ne_eqb _ _ h)
 
   -- a pointer of ring 0 to the thirteenth word of the save segment, about to write
-  module _ (t : Pointer) (low : t.ring ≡ 0) (e : t.segment ≡ v.save) (twelve : t.word ≡ 12) (y : Translated) (s : looked (as_dbr c.dbr) m t (write_questions t) y) where
+  module _ (t : Pointer) (low : t.ring ≡ 0) (e : t.segment ≡ v.save) (twelve : t.word ≡ 12) (y : Result Descriptor Fault) (s : looked (as_dbr c.dbr) m t (write_questions t) y) where
     abbrev save : Words.Descriptor
     save = descriptor_in (descriptor_word (as_dbr c.dbr) m v.save)
 
@@ -65,16 +60,16 @@ module _ (v : Delivery) (c : Core) (m : List ℕ) where
     unfolding use_by use_at use_questions word_questions write_questions may_write
     asked = rw (low, e, twelve)
 
-    pub unfit : (n : ℕ) → y ≡ Refused n → (ps : List Pointer) → delivers v (machine_with c ps m) ≡ false
-    unfit n f ps =
-        let h = rw f at s in
-        by_parts v c m ps ∙ and_false (eqb v.switch 1) _ (not_all _ save.length save.r1 n save.write (sym asked ∙ h.0) h.1)
+    unfit : (f : Fault) → y ≡ Err f → (ps : List Pointer) → delivers v (machine_with c ps m) ≡ false
+    unfit f i ps =
+        let h = rw i at s in
+        by_parts v c m ps ∙ and_false (eqb v.switch 1) _ (not_all _ save.length save.r1 (fault_number f) save.write (sym asked ∙ h) (fault_from_one f))
 
-    module _ (d : Descriptor) (f : y ≡ Passed d) where
+    module _ (d : Descriptor) (f : y ≡ Ok d) where
       passed : Looks (as_dbr c.dbr) m t (write_questions t) d.0
       passed = rw f at s
 
-      pub can_be_saved : v.switch ≡ 1 → SavesIn v c m d.0
+      can_be_saved : v.switch ≡ 1 → SavesIn v c m d.0
       can_be_saved on =
           let answer = then_ask_yes _ _ (sym asked ∙ looks_passes _ _ _ _ _ passed) in
           let place = then_ask_yes _ _ answer.0 in
@@ -85,4 +80,11 @@ module _ (v : Delivery) (c : Core) (m : List ℕ) where
             fits = let r = passed.found.fits in let l = passed.found.inside in omega (arith, r, l, twelve);
           }
 
-pub ruleset save_answers = (switched_off, unfit, can_be_saved)
+  -- the look's answer, without the number of its no
+  pub save_answered : (t : Pointer) (low : t.ring ≡ 0) (e : t.segment ≡ v.save) (twelve : t.word ≡ 12) (y : Result Descriptor Fault) → looked (as_dbr c.dbr) m t (write_questions t) y →
+      v.switch ≡ 1 → (x : Option Descriptor) → x ≡ result_ok y → saves v c m x
+  save_answered t low e twelve y s on x f = rw f (by_look y s)
+    where
+      by_look : (y : Result Descriptor Fault) → looked (as_dbr c.dbr) m t (write_questions t) y → saves v c m (result_ok y)
+      by_look (Err g) s = unfit t low e twelve (Err g) s g refl
+      by_look (Ok d) s = can_be_saved t low e twelve (Ok d) s d refl on

@@ -1,15 +1,14 @@
 -- What a frame can hold, and when and how one is written. Assumes nothing: these are definitions.
-use Rattle.std.specs.Prelude.{◌≡◌, Bool, true, false, List, ℕ, ◌+◌, ◌≤◌, length}
+use Rattle.std.specs.Prelude.{◌≡◌, Bool, true, false, List, ℕ, ◌+◌, ◌≤◌, length, Option, Some, None}
 use Rattle.model.specs.Words.{Pointer, descriptor_in}
 use Rattle.model.specs.Registers.{Delivery, Machine}
 use Rattle.model.specs.Questions.{all, pointer_in_range}
 use Rattle.model.specs.Deliver.{delivers, saved}
 use Rattle.words.specs.View.{PointerWithin}
+use Rattle.words.specs.declared.descriptor.Descriptor.{Descriptor}
 use Rattle.segments.specs.Translation.{as_dbr, descriptor_word}
 use Rattle.state.specs.View.{as_pointers, machine_with}
 use Rattle.state.specs.declared.Core.{Core}
-use Rattle.frames.specs.declared.Saves.{Saves}
-use Rattle.frames.specs.declared.Saves.TheVariants.{No, In}
 
 -- registers in the range of 2, as far as a frame holds them
 pub record Savable (c : Core) (prs : List ℕ) : Type 0 where
@@ -24,9 +23,9 @@ pub record SavesIn (v : Delivery) (c : Core) (m : List ℕ) (d : ℕ) : Type 0 w
   pub same : d ≡ descriptor_word (as_dbr c.dbr) m v.save
   pub fits : (descriptor_in d).address + 13 ≤ length m
 
-abbrev pub saves : Delivery → Core → (memory : List ℕ) → Saves → Type 0
-saves v c m No = (ps : List Pointer) → delivers v (machine_with c ps m) ≡ false
-saves v c m (In d) = SavesIn v c m d.0
+abbrev pub saves : Delivery → Core → (memory : List ℕ) → Option Descriptor → Type 0
+saves v c m None = (ps : List Pointer) → delivers v (machine_with c ps m) ≡ false
+saves v c m (Some d) = SavesIn v c m d.0
 
 -- the definition's memory, where the fault is delivered, and else what it was
 pub record Delivers (v : Delivery) (number : ℕ) (t : Pointer) (m : Machine) (delivered : Bool) (memory_now : List ℕ) : Type 0 where

@@ -8,37 +8,26 @@ ghost use Rattle.state.specs.View.{as_registers, as_machine, as_delivery, Ready}
 ghost use Rattle.frames.specs.Frame.{Savable, saves, Delivers};
 
 use questions::Use;
-use segments::translate::{Dbr, Translated};
+use segments::translate::Dbr;
 use state::{Core, Delivery};
 use words::descriptor::Descriptor;
 use words::pointer::{Pointer, SegmentNumber, WordNumber};
 
-// The save segment's descriptor, where a fault is delivered.
-#[derive(Clone, Copy)]
-enum Saves {
-    No,
-    In(Descriptor),
-}
-
-// Switch on, 11 to 14, 15 of a thirteenth word, and W on. 23 is asked for ring 0, which is in every write bracket, so that no ring
-// is refused.
-fn save_segment(delivery: Delivery, core: Core, memory: &[u64]) -> Saves
+// The save segment's descriptor, where a fault is delivered: switch on, 11 to 14, 15 of a thirteenth word, and W on. 23 is asked for
+// ring 0, which is in every write bracket, so that no ring is refused.
+fn save_segment(delivery: Delivery, core: Core, memory: &[u64]) -> Option<Descriptor>
     requires { Ready core memory.now }
     ensures { saves (as_delivery delivery) core memory.now result }
 {
     if delivery.switch != 1 {
-        return Saves::No;
+        return None;
     }
-    let dbr = core.dbr;
     let last = Pointer {
         ring: 0,
-        segment: SegmentNumber(delivery.save as u64),
+        segment: SegmentNumber(u64::from(delivery.save)),
         word: WordNumber(12),
     };
-    match segments::access::look(Use::Write, dbr, memory, last, last) {
-        Translated::Refused(_n) => Saves::No,
-        Translated::Passed(d) => Saves::In(d),
-    }
+    segments::access::look(Use::Write, core.dbr, memory, last, last).ok()
 }
 
 // DBR in LDBR's layout.
@@ -50,12 +39,13 @@ fn dbr_word(dbr: Dbr) -> u64
 }
 
 // A word of the frame.
+#[tactic(auto, unfolding(model::specs::Deliver::frame, model::specs::Registers::dbr_word))]
 fn frame_word(core: Core, prs: &[u16; 24], number: u8, t: Pointer, i: usize) -> u64
     requires { (i < 13) × Savable core prs.now × PointerWithin t }
     ensures { result ≡ get_or (frame number (as_pointer t) (as_registers core prs.now)) i 0 }
 {
     match i {
-        0 => number as u64,
+        0 => u64::from(number),
         1 => words::pointer::encode(t),
         2 => core.a,
         3 => dbr_word(core.dbr),
@@ -76,10 +66,8 @@ fn write_frame(
     requires { (start + 13 ≤ length memory.old) × Savable core prs.now × PointerWithin t }
     ensures { memory.new ≡ with_words start (frame number (as_pointer t) (as_registers core prs.now)) memory.old }
 {
-    let mut i: usize = 0;
-    while i < 13 {
+    for i in 0..13 {
         memory[start + i] = frame_word(core, prs, number, t, i);
-        i += 1;
     }
 }
 
@@ -96,8 +84,8 @@ pub fn deliver(
     ensures { Delivers (as_delivery delivery) number (as_pointer t) (as_machine core prs.now memory.old) result memory.new }
 {
     match save_segment(delivery, core, memory) {
-        Saves::No => false,
-        Saves::In(d) => {
+        None => false,
+        Some(d) => {
             let start = words::descriptor::address_of(d) as usize;
             write_frame(core, prs, memory, start, number, t);
             true

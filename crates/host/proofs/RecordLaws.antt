@@ -104,6 +104,8 @@ module _ (v : Delivery) (p : Pointer) (m : Machine) (size : ℕ) (sized : length
       pub check_rest : not k ≡ false → (n : ℕ) → n ≡ start_questions no_delivery m → n ≡ check_questions v m p
       check_rest h n e = e ∙ sym (same_start v no_delivery (sym z ∙ not-false k h) (unfold delivery_in_range in refl) m) ∙ sym asked_on
 
+pub ruleset size_answers = (start_answers, check_1, check_2_pointer, check_2_delivery, check_rest)
+
 -- OF A RECORD, with a pointer that is in range: 1 is asked twice, which changes nothing
 asked_twice : (b : Bool) (n x : ℕ) → ask b n (ask b n x) ≡ ask b n x
 unfolding ask

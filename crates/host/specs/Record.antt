@@ -1,10 +1,12 @@
 -- The host's register record as the model's registers. Assumes nothing: these are definitions.
-use Rattle.std.specs.Prelude.{◌≡◌, List, ℕ, ◌≤◌, length}
+use Rattle.std.specs.Prelude.{◌≡◌, List, ℕ, ◌≤◌, length, Result}
 use Rattle.model.specs.Words as Words
 use Rattle.model.specs.Registers as Registers
 use Rattle.host.specs.declared.record.DescriptorBase.{DescriptorBase}
 use Rattle.host.specs.declared.record.Pointer.{Pointer}
 use Rattle.host.specs.declared.record.Registers as Record
+use Rattle.questions.specs.Numbers.{number_by, start_number}
+use Rattle.questions.specs.declared.start.StartError.{StartError}
 use Rattle.state.specs.declared.Core.{Core}
 use Rattle.state.specs.View.{as_pointers, as_delivery, registers_with}
 
@@ -38,5 +40,5 @@ pub record Converted (r : Record.Registers) (c : Core) : Type 0 where
   pub fits : InRecord c
 
 -- questions that look at memory's size alone: their answer, for any memory of that size
-abbrev pub AnswersAny : (answer size : ℕ) → (asked : (memory : List ℕ) → ℕ) → Type 0
-AnswersAny n s f = (m : List ℕ) → length m ≡ s → n ≡ f m
+abbrev pub AnswersAny : {A : Type 0} → Result A StartError → (size : ℕ) → (asked : (memory : List ℕ) → ℕ) → Type 0
+AnswersAny r s f = (m : List ℕ) → length m ≡ s → number_by start_number r ≡ f m

@@ -9,7 +9,7 @@ use state::{Core, Delivery};
 use words::pointer::{SegmentNumber, WordNumber};
 
 #[repr(C)]
-#[derive(Clone, Copy)]
+#[derive(Clone, Copy, Default)]
 pub struct Pointer {
     pub ring: u8,
     pub segment: u16,
@@ -17,7 +17,7 @@ pub struct Pointer {
 }
 
 #[repr(C)]
-#[derive(Clone, Copy)]
+#[derive(Clone, Copy, Default)]
 pub struct DescriptorBase {
     pub address: u32,
     pub length: u16,
@@ -26,7 +26,7 @@ pub struct DescriptorBase {
 // In C the PRs are eight pointers: PR k has the three numbers from 3k on, and the upper byte of the first is padding there. What
 // faults do stands there as three fields of the record.
 #[repr(C)]
-#[derive(Clone, Copy)]
+#[derive(Clone, Copy, Default)]
 pub struct Registers {
     pub a: u64,
     pub dbr: DescriptorBase,
@@ -36,16 +36,19 @@ pub struct Registers {
 }
 
 // The core's form of a pointer, and back.
-pub fn to_core(p: Pointer) -> words::pointer::Pointer
-    ensures { (Words.as_pointer result ≡ pointer_of p) × (result.ring ≤ 255) × (result.segment.0 ≤ 65535) × (result.word.0 ≤ 65535) }
-{
-    words::pointer::Pointer {
-        ring: p.ring as u64,
-        segment: SegmentNumber(p.segment as u64),
-        word: WordNumber(p.word as u64),
+impl From<Pointer> for words::pointer::Pointer {
+    ghost from_gives = { λ p t. (Words.as_pointer t ≡ pointer_of p) × (t.ring ≤ 255) × (t.segment.0 ≤ 65535) × (t.word.0 ≤ 65535) };
+
+    fn from(p: Pointer) -> words::pointer::Pointer {
+        words::pointer::Pointer {
+            ring: p.ring as u64,
+            segment: SegmentNumber(p.segment as u64),
+            word: WordNumber(p.word as u64),
+        }
     }
 }
 
+// Stays: `From` can't say what it requires.
 pub fn from_core(p: words::pointer::Pointer) -> Pointer
     requires { (p.ring ≤ 255) × (p.segment.0 ≤ 65535) × (p.word.0 ≤ 65535) }
     ensures { pointer_of result ≡ Words.as_pointer p }
@@ -58,15 +61,18 @@ pub fn from_core(p: words::pointer::Pointer) -> Pointer
 }
 
 // The core's form of DBR, and back.
-pub fn to_base(d: DescriptorBase) -> Dbr
-    ensures { (as_dbr result ≡ base_of d) × (result.address ≤ 4294967295) × (result.length ≤ 65535) }
-{
-    Dbr {
-        address: d.address as u64,
-        length: d.length as u64,
+impl From<DescriptorBase> for Dbr {
+    ghost from_gives = { λ d b. (as_dbr b ≡ base_of d) × (b.address ≤ 4294967295) × (b.length ≤ 65535) };
+
+    fn from(d: DescriptorBase) -> Dbr {
+        Dbr {
+            address: d.address as u64,
+            length: d.length as u64,
+        }
     }
 }
 
+// Stays: `From` can't say what it requires.
 pub fn from_base(b: Dbr) -> DescriptorBase
     requires { (b.address ≤ 4294967295) × (b.length ≤ 65535) }
     ensures { base_of result ≡ as_dbr b }
@@ -78,12 +84,13 @@ pub fn from_base(b: Dbr) -> DescriptorBase
 }
 
 // A, DBR and IPR for the core.
+#[tactic(auto, using(crate::proofs::RecordLaws::registers_same))]
 pub fn core_of(registers: Registers) -> Core
     ensures { Converted registers result }
 {
     Core {
         a: registers.a,
-        dbr: to_base(registers.dbr),
-        ipr: to_core(registers.ipr),
+        dbr: Dbr::from(registers.dbr),
+        ipr: words::pointer::Pointer::from(registers.ipr),
     }
 }

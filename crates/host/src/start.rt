@@ -6,14 +6,17 @@ ghost use Rattle.model.specs.Questions as Questions;
 ghost use Rattle.model.specs.Check as Check;
 ghost use Rattle.words.specs.View.{as_pointer};
 ghost use Rattle.state.specs.View.{as_pointers, as_machine, as_delivery, pr_of};
+ghost use Rattle.questions.specs.Numbers.{number_by, start_number};
 ghost use Rattle.host.specs.Record.{machine_of, delivery_of, AnswersAny};
 ghost use Rattle.host.specs.Rings.{packed_rings, Joined, ones, eights};
 
 use crate::record::Registers;
+use questions::start::StartError;
 use state::{Core, Delivery};
 use words::pointer::{Pointer, SegmentNumber, WordNumber};
 
 // 2 of one pointer.
+#[tactic(auto, unfolding(model::specs::Questions::pointer_in_range))]
 fn is_in_range(p: Pointer) -> bool
     ensures { result ≡ Questions.pointer_in_range (as_pointer p) }
 {
@@ -21,6 +24,7 @@ fn is_in_range(p: Pointer) -> bool
 }
 
 // RING of a PR.
+#[tactic(auto, using(crate::proofs::RingLaws::eight_at_once))]
 fn ring_of(prs: &[u16; 24], number: usize) -> u64
     requires { number < 8 }
     ensures { (result ≡ (pr_of prs.now number).ring) × (result ≤ 255) }
@@ -29,6 +33,7 @@ fn ring_of(prs: &[u16; 24], number: usize) -> u64
 }
 
 // SEGNO of a PR; WORDNO is in range as it is.
+#[tactic(auto, using(crate::proofs::RingLaws::eight_at_once))]
 fn segment_of(prs: &[u16; 24], number: usize) -> u64
     requires { number < 8 }
     ensures { (result ≡ (pr_of prs.now number).segment) × ((pr_of prs.now number).word ≤ 65535) }
@@ -37,6 +42,7 @@ fn segment_of(prs: &[u16; 24], number: usize) -> u64
 }
 
 // The rings of the PRs, a byte each.
+#[tactic(auto, using(crate::proofs::RingLaws::eight_at_once))]
 fn rings_of(prs: &[u16; 24]) -> u64
     ensures { result ≡ packed_rings (as_pointers prs.now) }
 {
@@ -51,6 +57,7 @@ fn rings_of(prs: &[u16; 24]) -> u64
 }
 
 // The bits of all segment numbers of the PRs.
+#[tactic(auto, using(crate::proofs::RingLaws::eight_at_once))]
 fn segments_of(prs: &[u16; 24]) -> u64
     ensures { Joined (as_pointers prs.now) result }
 {
@@ -63,6 +70,7 @@ fn segments_of(prs: &[u16; 24]) -> u64
 }
 
 // 2 of every PR: no ring has a bit above its lowest three, no segment number one above its lowest twelve.
+#[tactic(auto, using(crate::proofs::RingLaws::eight_at_once))]
 fn prs_are_in_range(prs: &[u16; 24]) -> bool
     ensures { result ≡ Questions.all Questions.pointer_in_range (as_pointers prs.now) }
 {
@@ -70,6 +78,7 @@ fn prs_are_in_range(prs: &[u16; 24]) -> bool
 }
 
 // 3 of bytes that are at most 7: with bit 3 put on and `ring` taken away, it is still on where a byte is at least `ring`, and no byte borrows.
+#[tactic(auto, using(crate::proofs::RingLaws::eight_at_once))]
 fn bytes_are_at_least(ring: u64, bytes: u64) -> bool
     requires { ring ≤ 7 }
     ensures { result ≡ eqb (bit_and (bit_or bytes eights - ring * ones) eights) eights }
@@ -79,6 +88,7 @@ fn bytes_are_at_least(ring: u64, bytes: u64) -> bool
 }
 
 // 3, where 2 has a yes: no PR's ring below IPR's.
+#[tactic(auto, using(crate::proofs::RingLaws::eight_at_once))]
 fn are_at_least(ring: u64, prs: &[u16; 24]) -> bool
     requires { (ring ≤ 7) × (Questions.all Questions.pointer_in_range (as_pointers prs.now) ≡ true) }
     ensures { result ≡ Questions.rings_at_least ring (as_pointers prs.now) }
@@ -87,6 +97,7 @@ fn are_at_least(ring: u64, prs: &[u16; 24]) -> bool
 }
 
 // 2 of the switch and its segments.
+#[tactic(auto, unfolding(model::specs::Questions::delivery_in_range))]
 pub fn is_delivery(delivery: Delivery) -> bool
     ensures { result ≡ Questions.delivery_in_range (as_delivery delivery) }
 {
@@ -94,76 +105,86 @@ pub fn is_delivery(delivery: Delivery) -> bool
 }
 
 // 1 and 2, where the switch and its segments have a no.
-pub fn delivery_refused(memory: &[u64]) -> u8
-    ensures { result ≡ Questions.ask (Questions.memory_fits (length memory.now)) 1 2 }
+#[tactic(auto, using(crate::proofs::RecordLaws::refused_1, crate::proofs::RecordLaws::refused_2))]
+pub fn delivery_refused(memory: &[u64]) -> StartError
+    ensures { start_number result ≡ Questions.ask (Questions.memory_fits (length memory.now)) 1 2 }
 {
     if 16777216 < memory.len() {
-        return 1;
+        return StartError::MemoryTooLarge;
     }
-    2
+    StartError::OutOfRange
 }
 
-// 1 to 4, but for 2 of the switch and its segments: the number of the first no, or 0.
-pub fn start_answer(core: Core, prs: &[u16; 24], memory: &[u64]) -> u8
-    ensures { result ≡ Questions.start_questions no_delivery (as_machine core prs.now memory.now) }
+// 1 to 4, but for 2 of the switch and its segments: the first no.
+#[tactic(auto, using(crate::proofs::RecordLaws::start_answers, crate::proofs::RingLaws::eight_at_once))]
+pub fn start_answer(core: Core, prs: &[u16; 24], memory: &[u64]) -> Result<(), StartError>
+    ensures { number_by start_number result ≡ Questions.start_questions no_delivery (as_machine core prs.now memory.now) }
 {
     if 16777216 < memory.len() {
-        return 1;
+        return Err(StartError::MemoryTooLarge);
     }
     if !is_in_range(core.ipr) {
-        return 2;
+        return Err(StartError::OutOfRange);
     }
     if !prs_are_in_range(prs) {
-        return 2;
+        return Err(StartError::OutOfRange);
     }
     if 16777215 < core.dbr.address {
-        return 2;
+        return Err(StartError::OutOfRange);
     }
     if !are_at_least(core.ipr.ring, prs) {
-        return 3;
+        return Err(StartError::RingsBelow);
     }
     if 4096 < core.dbr.length { // of a run's start
-        return 4;
+        return Err(StartError::BaseOutsideMemory);
     }
     if memory.len() < core.dbr.address as usize + core.dbr.length as usize {
-        return 4;
+        return Err(StartError::BaseOutsideMemory);
     }
-    0
+    Ok(())
 }
 
-// The same with 2 of the switch and its segments, and of a pointer handed in, for any memory of that size. It is not made of
-// `start_answer`: that has one caller, so that the compiler merges it into the loop of a run.
-pub fn size_answer(delivery: Delivery, p: Pointer, core: Core, prs: &[u16; 24], size: usize) -> u8
+// The same with 2 of the switch and its segments, and of a pointer handed in, for any memory of that size.
+// Stays: it is not made of `start_answer`, which has one caller, so that the compiler merges it into the loop of a run
+// (docs/PERFORMANCE.md).
+#[tactic(auto, using(crate::proofs::RecordLaws::size_answers, crate::proofs::RingLaws::eight_at_once))]
+pub fn size_answer(
+    delivery: Delivery,
+    p: Pointer,
+    core: Core,
+    prs: &[u16; 24],
+    size: usize,
+) -> Result<(), StartError>
     ensures { AnswersAny result size (λ m. Check.check_questions (as_delivery delivery) (as_machine core prs.now m) (as_pointer p)) }
 {
     if 16777216 < size {
-        return 1;
+        return Err(StartError::MemoryTooLarge);
     }
     if !is_in_range(p) {
-        return 2;
+        return Err(StartError::OutOfRange);
     }
     if !is_delivery(delivery) {
-        return 2;
+        return Err(StartError::OutOfRange);
     }
     if !is_in_range(core.ipr) {
-        return 2;
+        return Err(StartError::OutOfRange);
     }
     if !prs_are_in_range(prs) {
-        return 2;
+        return Err(StartError::OutOfRange);
     }
     if 16777215 < core.dbr.address {
-        return 2;
+        return Err(StartError::OutOfRange);
     }
     if !are_at_least(core.ipr.ring, prs) {
-        return 3;
+        return Err(StartError::RingsBelow);
     }
     if 4096 < core.dbr.length {
-        return 4;
+        return Err(StartError::BaseOutsideMemory);
     }
     if size < core.dbr.address as usize + core.dbr.length as usize {
-        return 4;
+        return Err(StartError::BaseOutsideMemory);
     }
-    0
+    Ok(())
 }
 
 // The same of a memory.
@@ -173,14 +194,15 @@ pub fn check_answer(
     core: Core,
     prs: &[u16; 24],
     memory: &[u64],
-) -> u8
-    ensures { result ≡ Check.check_questions (as_delivery delivery) (as_machine core prs.now memory.now) (as_pointer p) }
+) -> Result<(), StartError>
+    ensures { number_by start_number result ≡ Check.check_questions (as_delivery delivery) (as_machine core prs.now memory.now) (as_pointer p) }
 {
     size_answer(delivery, p, core, prs, memory.len())
 }
 
 // 1 to 4 of a record, for any memory of that size: any pointer in range adds nothing to what is asked.
-pub fn record_size_answer(registers: Registers, size: usize) -> u8
+#[tactic(auto, using(crate::proofs::RecordLaws::asked_of_record))]
+pub fn record_size_answer(registers: Registers, size: usize) -> Result<(), StartError>
     ensures { AnswersAny result size (λ m. Questions.start_questions (delivery_of registers) (machine_of registers m)) }
 {
     let core = crate::record::core_of(registers);
@@ -194,8 +216,8 @@ pub fn record_size_answer(registers: Registers, size: usize) -> u8
 }
 
 // 1 to 4 of a record and a memory.
-pub fn record_answer(registers: Registers, memory: &[u64]) -> u8
-    ensures { result ≡ Questions.start_questions (delivery_of registers) (machine_of registers memory.now) }
+pub fn record_answer(registers: Registers, memory: &[u64]) -> Result<(), StartError>
+    ensures { number_by start_number result ≡ Questions.start_questions (delivery_of registers) (machine_of registers memory.now) }
 {
     record_size_answer(registers, memory.len())
 }

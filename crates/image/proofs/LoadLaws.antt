@@ -18,11 +18,15 @@ use Rattle.host.specs.Record.{registers_of, delivery_of}
 use Rattle.model.specs.Registers.{machine}
 use Rattle.loading.specs.declared.Loading.{Loading}
 use Rattle.loading.specs.declared.Outcome.{Outcome}
-use Rattle.loading.specs.declared.Outcome.TheVariants.{Refused, Waits, Next, Ready}
+use Rattle.loading.specs.declared.Outcome.TheVariants.{Waits, Next, Ready}
+use Rattle.loading.specs.declared.Start.{Start}
+use Rattle.loading.specs.declared.error.LoadError.{LoadError}
+use Rattle.fields.specs.declared.rules.Rules.{Rules}
+use Rattle.fields.specs.declared.rules.Rules.TheVariants.{Today}
+use Rattle.std.specs.Prelude.{Result, Ok, Err}
 use Rattle.image.specs.declared.load.LoadOutcome.TheVariants as Load
-use Rattle.loading.specs.View.{keeps_words, memory_in, as_loading, LoadingWithin, MemoryWithin, Starts, StartsSizing}
-use Rattle.loading.specs.Record.{outcome_image, Goes, OutcomeWithin, WordTaken, RecordedAs}
-use Rattle.loading.specs.declared.Recorded.{Recorded}
+use Rattle.loading.specs.View.{keeps_words, memory_in, as_loading, LoadingWithin, Starts, StartsSizing}
+use Rattle.loading.specs.Record.{outcome_image, Goes, StartOf, WordTaken, RecordedAs}
 use Rattle.loading.proofs.RecordLaws.{within_now, goes_next}
 use Rattle.image.specs.Load.{LoadedSoFar, WordIf, WordLoaded, WordsLoaded, LoadedAs}
 
@@ -38,7 +42,7 @@ from_is_drop : (at : ℕ) (bs : List ℕ) → from at bs ≡ drop at bs
 from_is_drop at bs = take_all (length bs - at) (drop at bs) (let z = length-drop at bs in omega arith)
 
 module _ {l : Loading} {m bs : List ℕ} {e : Bool} {at : ℕ} {k : Loading} {m_now : List ℕ} (i : LoadedSoFar l m bs e at k m_now)
-    {j : Loading} {o : Outcome} {m_next : List ℕ} (r : RecordedAs k m_now (from at bs) e (record { loading = j; outcome = o }) m_next) where
+    {j : Loading} {o : Result Outcome LoadError} {m_next : List ℕ} (r : RecordedAs k m_now (from at bs) e o j m_next) where
   both : (rest : List ℕ) → (e ≡ true → rest ≡ []) → image_after (as_loading l m) (bs ++ rest) ≡ outcome_image o (as_loading j m_next) (drop at bs) rest
   unfolding Goes outcome_image
   both rest f = i.goes rest f ∙ (rw (from_is_drop at bs) at r.goes) rest f
@@ -49,29 +53,27 @@ module _ {l : Loading} {m bs : List ℕ} {e : Bool} {at : ℕ} {k : Loading} {m_
   left : length (from at bs) ≡ length bs - at
   left = ap length (from_is_drop at bs) ∙ length-drop at bs
 
-  pub last_refused : (n : ℕ) → o ≡ Refused n → LoadedAs l m bs e (record { loading = j; outcome = Load.Refused n }) m_next
-  unfolding Goes outcome_image OutcomeWithin
-  last_refused n q = record { size_same = long; within = r.within; goes = λ rest f. both rest f ∙ rw q; outcome_within = rw q at r.outcome_within }
+  pub last_refused : (error : LoadError) → o ≡ Err error → LoadedAs l m bs e (Err error) j m_next
+  unfolding Goes outcome_image
+  last_refused error q = record { size_same = long; within = r.within; goes = λ rest f. both rest f ∙ rw q; outcome_within = tt }
 
-  pub last_waits : o ≡ Waits → LoadedAs l m bs e (record { loading = j; outcome = Load.More at }) m_next
-  unfolding Goes outcome_image OutcomeWithin
+  pub last_waits : o ≡ Ok Waits → LoadedAs l m bs e (Ok (Load.More at)) j m_next
+  unfolding Goes outcome_image
   last_waits q =
       let w = rw q at r.outcome_within in
       let z = left in
       let h = i.in_bytes in
       record { size_same = long; within = r.within; goes = λ rest f. both rest f ∙ rw q; outcome_within = (w.0, h, let y = w.1 in omega arith) }
 
-  pub last_ready : (b : ℕ) → o ≡ Ready b → LoadedAs l m bs e (record { loading = j; outcome = Load.Ready b }) m_next
-  unfolding Goes outcome_image OutcomeWithin
-  last_ready b q = record { size_same = long; within = r.within; goes = λ rest f. both rest f ∙ rw q; outcome_within = rw q at r.outcome_within }
+  pub last_ready : (s : Start) → o ≡ Ok (Ready s) → LoadedAs l m bs e (Ok (Load.Ready s)) j m_next
+  unfolding Goes outcome_image
+  last_ready s q = record { size_same = long; within = r.within; goes = λ rest f. both rest f ∙ rw q; outcome_within = rw q at r.outcome_within }
 
-  module _ {s : ℕ} (q : o ≡ Next s) where
+  module _ {s : ℕ} (q : o ≡ Ok (Next s)) where
     pub next_in_bytes : at + s ≤ length bs
-    unfolding OutcomeWithin
     next_in_bytes = let y = (rw q at r.outcome_within).1 in let z = left in let h = i.in_bytes in omega arith
 
     pub next_less : length bs - (at + s) < length bs - at
-    unfolding OutcomeWithin
     next_less = let u = (rw q at r.outcome_within).0 in let y = (rw q at r.outcome_within).1 in let z = left in omega arith
 
     pub one_more : LoadedSoFar l m bs e (at + s) j m_next
@@ -163,77 +165,73 @@ module _ (l : Loading) (m bs : List ℕ) where
   unfolding Goes outcome_image
   no_word h = record { in_bytes = omega arith; same_length = refl; within = h; goes = λ e rest _. refl; some_bytes = λ f. absurd (f refl); none_same = λ _. refl }
 
-  module _ (n : ℕ) (m_now : List ℕ) (w : WordTaken l.is_stored l.has_memory l.words m bs n m_now) (h : LoadingWithin l m) where
-    pub word_refused : (n ≡ 0 → ⊥) → WordLoaded l m bs 0 m_now
-    word_refused f = subst (WordLoaded l m bs 0) (sym (w.kept f)) (no_word h)
+  module _ {A : Type 0} (x : Result A LoadError) (m_now : List ℕ) (w : WordTaken l.rules l.words m bs x m_now) (h : LoadingWithin l m) where
+    pub word_refused : (error : LoadError) → x ≡ Err error → WordLoaded l m bs 0 m_now
+    word_refused error q = subst (WordLoaded l m bs 0) (sym (rw q at w.kept)) (no_word h)
 
-    pub word_next : n ≡ 0 → 14 ≤ length bs → WordLoaded l m bs 14 m_now
-    word_next z g =
+    pub word_next : (a : A) → x ≡ Ok a → 14 ≤ length bs → WordLoaded l m bs 14 m_now
+    word_next a q g =
         record {
           in_bytes = g;
           some_bytes = λ _. omega arith;
           none_same = λ f. absurd (omega arith);
           same_length = w.size_same;
-          within = within_now l m bs n m_now w h;
-          goes = goes_next l m bs n m_now w h z;
+          within = within_now l m bs x m_now w h;
+          goes = goes_next l m bs x m_now w h a q;
         }
 
 pub ruleset fronts = (word_in_front, front_marked, front_whole, no_word, word_refused, word_next)
 
 -- as a record of all their bytes, or else the next record
 module _ (l : Loading) (m bs : List ℕ) (e : Bool) (n : ℕ) (m_now : List ℕ) (w : WordsLoaded l m bs n m_now) where
-  pub words_as_one : (n ≡ 0 → ⊥) → RecordedAs l m bs e (record { loading = l; outcome = Next n }) m_now
-  unfolding OutcomeWithin
+  pub words_as_one : (n ≡ 0 → ⊥) → RecordedAs l m bs e (Ok (Next n)) l m_now
   words_as_one f =
       record { size_same = (w.so_far e).same_length; within = (w.so_far e).within; goes = (w.so_far e).goes; outcome_within = (w.some_bytes f, (w.so_far e).in_bytes); kept = tt }
 
-  pub no_words : n ≡ 0 → (x : Recorded) (m_next : List ℕ) → RecordedAs l m_now bs e x m_next → RecordedAs l m bs e x m_next
-  no_words f x m_next = subst (λ v. RecordedAs l v bs e x m_next) (w.none_same f)
+  pub no_words : n ≡ 0 → (x : Result Outcome LoadError) (k : Loading) (m_next : List ℕ) → RecordedAs l m_now bs e x k m_next → RecordedAs l m bs e x k m_next
+  no_words f x k m_next = subst (λ v. RecordedAs l v bs e x k m_next) (w.none_same f)
 
 pub ruleset nexts = (words_as_one, no_words)
 
 -- a whole image, from nothing
-pub whole_loaded : (v : Image.Rules) (l : Image.Loading) (bs : List ℕ) (o : Outcome) (k : Image.Loading) → l ≡ Image.nothing_loaded v → Goes l bs true o k →
+pub whole_loaded : (v : Image.Rules) (l : Image.Loading) (bs : List ℕ) (o : Result Outcome LoadError) (k : Image.Loading) → l ≡ Image.nothing_loaded v → Goes l bs true o k →
     image_after (Image.nothing_loaded v) bs ≡ outcome_image o k bs []
 unfolding Goes
 whole_loaded v l bs o k e h = sym (ap₂ image_after e (append-nil bs)) ∙ h [] (λ _. refl)
 
-pub image_loaded : (l : Image.Loading) (bs : List ℕ) (o : Outcome) (k : Image.Loading) → l ≡ Image.nothing_loaded Image.today → Goes l bs true o k → Image.image bs ≡ outcome_image o k bs []
+pub image_loaded : (l : Image.Loading) (bs : List ℕ) (o : Result Outcome LoadError) (k : Image.Loading) → l ≡ Image.nothing_loaded Image.today → Goes l bs true o k → Image.image bs ≡ outcome_image o k bs []
 unfolding Image.image
 image_loaded l bs o k e h = whole_loaded Image.today l bs o k e h
 
 -- a store of zeros may be lent before the first record
-pub may_load : (v : Bool) (l : Loading) (m : List ℕ) → Starts v l → m ≡ replicate 8320 0 → LoadingWithin l m
+pub may_load : (v : Rules) (l : Loading) (m : List ℕ) → Starts v l → m ≡ replicate 8320 0 → LoadingWithin l m
 unfolding Starts
 may_load v l m s z = (s m z).0
 
-pub may_size : (l : Loading) (m : List ℕ) → StartsSizing false l → m ≡ replicate 128 0 → LoadingWithin l m
+pub may_size : (l : Loading) (m : List ℕ) → StartsSizing Today l → m ≡ replicate 128 0 → LoadingWithin l m
 unfolding StartsSizing
 may_size l m s z = (s refl m z).0
 
 -- once ME has come, the image's memory is the front of what is lent
-pub words_within : (l : Loading) (m : List ℕ) → LoadingWithin l m → length m ≡ 8320 → l.has_memory ≡ true → l.words ≤ length m
-unfolding MemoryWithin
-words_within l m w full h = let q = (rw h at w).memory_within in omega arith
-
 pub memory_is_front : (n : ℕ) (m : List ℕ) → length m ≡ 8320 → memory_in n m ≡ take n m
 unfolding memory_in keeps_words
 memory_is_front n m full = rw (le-leb 8320 (length m) (omega arith)) refl
 
--- what faults do is loaded with the registers
-pub loaded_delivery : (l : Loading) (m : List ℕ) → (as_loading l m).delivery ≡ delivery_of l.registers
-unfolding as_loading
-loaded_delivery l m = refl
+-- WHAT A START GIVES
+module _ (l : Loading) (m : List ℕ) (s : Start) (is : StartOf l s) where
+  pub words_within : LoadingWithin l m → length m ≡ 8320 → s.words ≤ length m
+  words_within w full = let h : s.words ≤ 8192 = rw is.words_given at w.memory_within in omega arith
 
--- once ME and ST have come, what is loaded is a machine
-pub loaded_machine : (l : Loading) (m : List ℕ) → l.has_memory ≡ true → l.has_registers ≡ true →
-    Image.machine_of (as_loading l m) ≡ record { registers = registers_of l.registers; memory = memory_in l.words m }
-unfolding Image.machine_of Image.memory_of Image.or_else as_loading machine
-loaded_machine l m h g = rw (h, g) refl
+  -- what faults do is loaded with the registers
+  pub loaded_delivery : (as_loading l m).delivery ≡ delivery_of s.registers
+  unfolding as_loading
+  loaded_delivery = rw is.registers_given refl
 
-pub loaded_full : (l : Loading) (m : List ℕ) → length m ≡ 8320 → l.has_memory ≡ true → l.has_registers ≡ true →
-    Image.machine_of (as_loading l m) ≡ record { registers = registers_of l.registers; memory = take l.words m }
-loaded_full l m full h g =
-    loaded_machine l m h g ∙ ap (λ ws. record { registers = registers_of l.registers; memory = ws }) (memory_is_front l.words m full)
+  pub loaded_machine : Image.machine_of (as_loading l m) ≡ record { registers = registers_of s.registers; memory = memory_in s.words m }
+  unfolding Image.machine_of Image.memory_of Image.or_else as_loading machine
+  loaded_machine = rw (is.words_given, is.registers_given) refl
+
+  pub loaded_full : length m ≡ 8320 → Image.machine_of (as_loading l m) ≡ record { registers = registers_of s.registers; memory = take s.words m }
+  loaded_full full = loaded_machine ∙ ap (λ ws. record { registers = registers_of s.registers; memory = ws }) (memory_is_front s.words m full)
 
 pub ruleset loads = (no_record_yet, last_refused, last_waits, last_ready, one_more)

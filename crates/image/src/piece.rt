@@ -3,34 +3,30 @@ ghost use Rattle.std.specs.Prelude.{◌≤◌, length, take};
 ghost use Rattle.loading.specs.View.{LoadingWithin};
 ghost use Rattle.image.specs.Piece.{PieceLoaded};
 
-use crate::load::{LoadOutcome, Loaded};
-use buffers::move_down;
+use crate::load::{LoadOutcome, load};
+use buffers::move_bytes;
 use loading::Loading;
+use loading::error::LoadError;
 
 // Loads the buffer's first `size` bytes; of those that wait for more, `More` says how many stand at its front. `ended`: no bytes come after these.
+#[tactic(auto, using(crate::proofs::PieceLaws::pieces))]
 pub fn load_piece(
-    loading: Loading,
+    loading: &mut Loading,
     store: &mut [u64],
     buffer: &mut [u8],
     size: usize,
     ended: bool,
-) -> Loaded
-    requires { LoadingWithin loading store.old × (size ≤ length buffer.old) }
-    ensures { PieceLoaded loading store.old (take size buffer.old) ended result store.new buffer.new }
+) -> Result<LoadOutcome, LoadError>
+    requires { LoadingWithin loading.old store.old × (size ≤ length buffer.old) }
+    ensures { PieceLoaded loading.old store.old (take size buffer.old) ended result loading.new store.new buffer.new }
 {
-    let x = crate::load::load(loading, store, &buffer[..size], ended);
-    let outcome = x.outcome;
+    let outcome = load(loading, store, &buffer[..size], ended)?;
     match outcome {
-        LoadOutcome::Refused(_n) => x,
         LoadOutcome::More(used) => {
             let kept = size - used;
-            move_down(buffer, used, 0, kept);
-            let after = x.loading;
-            Loaded {
-                loading: after,
-                outcome: LoadOutcome::More(kept),
-            }
+            move_bytes(buffer, used, 0, kept);
+            Ok(LoadOutcome::More(kept))
         }
-        LoadOutcome::Ready(_budget) => x,
+        LoadOutcome::Ready(_start) => Ok(outcome),
     }
 }

@@ -3,8 +3,12 @@ ghost use Rattle.loading.specs.Record.{RecordedAs};
 ghost use Rattle.loading.specs.View.{LoadingWithin};
 ghost use Rattle.image.specs.Load.{WordIf, WordLoaded, WordsLoaded};
 
-use loading::{Loading, Outcome, Recorded};
+use loading::error::LoadError;
+use loading::word::take_word;
+use loading::{Loading, Outcome};
+use records::load_record;
 
+#[tactic(auto, using(crate::proofs::LoadLaws::fronts))]
 fn is_word(bytes: &[u8]) -> bool
     ensures { WordIf result bytes.now }
 {
@@ -15,6 +19,7 @@ fn is_word(bytes: &[u8]) -> bool
 }
 
 // The bytes of a WD record in front that was loaded; 0 says nothing of the record there.
+#[tactic(auto, using(crate::proofs::LoadLaws::fronts))]
 fn load_front(loading: Loading, store: &mut [u64], bytes: &[u8]) -> usize
     requires { LoadingWithin loading store.old }
     ensures { WordLoaded loading store.old bytes.now result store.new }
@@ -22,25 +27,20 @@ fn load_front(loading: Loading, store: &mut [u64], bytes: &[u8]) -> usize
     if !is_word(bytes) {
         return 0;
     }
-    let n = loading::word::take_word(
-        loading.is_stored,
-        loading.has_memory,
-        loading.words,
-        store,
-        bytes,
-    );
-    if n != 0 {
-        return 0;
+    match take_word(loading.rules, loading.words, store, bytes) {
+        Ok(()) => 14,
+        Err(_error) => 0,
     }
-    14
 }
 
 // So many bytes were WD records, and were loaded.
+#[tactic(auto, using(crate::proofs::LoadLaws::words))]
 fn load_words(loading: Loading, store: &mut [u64], bytes: &[u8]) -> usize
     requires { LoadingWithin loading store.old }
     ensures { WordsLoaded loading store.old bytes.now result store.new }
 {
     let mut at = 0;
+    // Stays: it carries nothing but its place (docs/PERFORMANCE.md).
     loop {
         let size = load_front(loading, store, &bytes[at..]);
         if size == 0 {
@@ -51,16 +51,19 @@ fn load_words(loading: Loading, store: &mut [u64], bytes: &[u8]) -> usize
 }
 
 // WD records in front, as one record of all their bytes, or else the record that stands there.
-pub fn load_next(loading: Loading, store: &mut [u64], bytes: &[u8], ended: bool) -> Recorded
-    requires { LoadingWithin loading store.old }
-    ensures { RecordedAs loading store.old bytes.now ended result store.new }
+#[tactic(auto, using(crate::proofs::LoadLaws::words, crate::proofs::LoadLaws::nexts))]
+pub fn load_next(
+    loading: &mut Loading,
+    store: &mut [u64],
+    bytes: &[u8],
+    ended: bool,
+) -> Result<Outcome, LoadError>
+    requires { LoadingWithin loading.old store.old }
+    ensures { RecordedAs loading.old store.old bytes.now ended result loading.new store.new }
 {
-    let used = load_words(loading, store, bytes);
+    let used = load_words(*loading, store, bytes);
     if used != 0 {
-        return Recorded {
-            loading,
-            outcome: Outcome::Next(used),
-        };
+        return Ok(Outcome::Next(used));
     }
-    records::load_record(loading, store, bytes, ended)
+    load_record(loading, store, bytes, ended)
 }

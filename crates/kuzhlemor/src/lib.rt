@@ -20,6 +20,8 @@ ghost use Rattle.kuzhlemor.specs.Entry.{RunSays, StepSays};
 use checks::Check;
 use entry::Answer;
 use host::record::Registers;
+use old::word::Way;
+use tables::row::Row;
 
 #[unsafe(no_mangle)]
 pub extern "C" fn kuzhlemor_run(
@@ -76,11 +78,14 @@ pub extern "C" fn kuzhlemor_set_brackets(
     memory: &mut [u64],
     dbr_address: u32,
     dbr_length: u16,
-    rows: &[[u16; 5]],
+    rows: &[Row],
 ) -> u32
     ensures { (result ≡ (set_brackets memory.old (base dbr_address dbr_length) (as_rows rows.now)).answer) × (memory.new ≡ (set_brackets memory.old (base dbr_address dbr_length) (as_rows rows.now)).memory) }
 {
-    tables::set_brackets(memory, dbr_address, dbr_length, rows) as u32
+    match tables::set_brackets(memory, dbr_address, dbr_length, rows) {
+        Ok(()) => 0,
+        Err(error) => u32::from(error.number()),
+    }
 }
 
 // Descriptors of the old benches made into today's where they stand, all or nothing: number and index of the first that fails.
@@ -88,7 +93,7 @@ pub extern "C" fn kuzhlemor_set_brackets(
 pub extern "C" fn kuzhlemor_from_old(words: &mut [u64]) -> old::Answer
     ensures { (as_answer result ≡ (convert_words from_old words.old).answer) × (words.new ≡ (convert_words from_old words.old).words) }
 {
-    old::convert_words(words, false)
+    old::Answer::from(old::convert_words(words, Way::FromOld))
 }
 
 // And back.
@@ -96,7 +101,7 @@ pub extern "C" fn kuzhlemor_from_old(words: &mut [u64]) -> old::Answer
 pub extern "C" fn kuzhlemor_to_old(words: &mut [u64]) -> old::Answer
     ensures { (as_answer result ≡ (convert_words to_old words.old).answer) × (words.new ≡ (convert_words to_old words.old).words) }
 {
-    old::convert_words(words, true)
+    old::Answer::from(old::convert_words(words, Way::ToOld))
 }
 
 // What an image will need, worked out from its records: the number of the question with a no, or 0 and the five figures.

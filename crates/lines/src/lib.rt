@@ -59,8 +59,7 @@ fn put_tens(text: &mut [u8], at: usize, tens: &[u8; 10], width: usize) -> usize
     requires { (at + 10 ≤ length text.old) × (width ≤ 9) }
     ensures { (text.new ≡ placed at (take result tens.now) text.old) × (width ≤ result) × (result ≤ width + 8) × (result ≤ length tens.now) }
 {
-    let digits: &[u8] = tens;
-    put_bytes(text, at, &digits[0..8]);
+    put_bytes(text, at, &tens[..8]);
     if 8 < width {
         text[at + 8] = tens[8];
         return 9;
@@ -73,9 +72,9 @@ fn put_last_digit(text: &mut [u8], at: usize, ones: u64, p: Pointer, pointers: u
     requires { (at + 27 ≤ length text.old) × (ones ≤ 9) × PointerWithin p × (pointers ≤ 64) }
     ensures { Put 22 at (step_line ones (record { ipr = as_pointer p; pointers = pointers })) text.old text.new result }
 {
-    let at_ring = put_digit(text, at, ones, 32);
+    let at_ring = put_digit(text, at, ones, b' ');
     let at_count = put_pointer(text, at_ring, p.ring, p.segment.0, p.word.0);
-    put_short(text, at_count, pointers, 10)
+    put_short(text, at_count, pointers, b'\n')
 }
 
 // A completed step's number, IPR after it, and how many pointer words it read.

@@ -1,7 +1,7 @@
 // A listing, a chunk of steps at a time, as many lines as a text has room for.
 #![tactic(auto)]
 
-ghost use Rattle.std.specs.Prelude.{◌≡◌, ◌+◌, ◌*◌, ◌≤◌, ◌<◌, min, length};
+ghost use Rattle.std.specs.Prelude.{◌≡◌, ◌+◌, ◌*◌, ◌≤◌, ◌<◌, length};
 ghost use Rattle.model.specs.Questions.{start_questions};
 ghost use Rattle.state.specs.View.{as_machine, as_delivery};
 ghost use Rattle.listing.specs.Lines.{LinesWritten, WholeListing};
@@ -10,18 +10,12 @@ use chunks::Line;
 use state::reply::Reply;
 use state::{Core, Delivery};
 
-fn smaller(x: usize, y: usize) -> usize
-    ensures { result ≡ min x y }
-{
-    if x < y { x } else { y }
-}
-
 // How many steps a chunk runs: so many are left, and a text has that room for their lines and a last one.
 fn chunk_of(left: u32, room: usize) -> u32
     requires { (0 < left) × (128 ≤ room) }
     ensures { (0 < result) × (result ≤ left) × (result ≤ 256) × (64 * result + 64 ≤ room) }
 {
-    smaller(smaller(left as usize, 256), room / 64 - 1) as u32
+    (left as usize).min(256).min(room / 64 - 1) as u32
 }
 
 // Lines from the text's start on, after which so many steps are complete.
@@ -52,6 +46,7 @@ pub fn list(
         total,
     };
     let mut done = count;
+    // Stays: a turn takes as many steps as the text has room for, so that no range counts them.
     while done < budget {
         let length = x.length;
         let room = text.len() - length;

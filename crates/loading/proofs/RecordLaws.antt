@@ -4,7 +4,7 @@ use mathlib.Core.Bool.{Bool, true, false, cond}
 use mathlib.Core.Logic.{◌⊎◌, inl, inr}
 use mathlib.Core.List.{List, ◌++◌, append_assoc}
 use mathlib.Core.Option.{some}
-use Prim.Native.Nat.{ℕ, zero, suc, ◌+◌, ◌-◌, ◌≤◌, ◌<◌}
+use Prim.Native.Nat.{ℕ, ◌+◌, ◌-◌, ◌≤◌, ◌<◌}
 use native.Mathlib.Omega.{arith}
 use lib.Dec.{leb, ltb}
 use lib.ListN.{length, take, drop, set, length-set, length-replicate, take-append-drop}
@@ -19,10 +19,13 @@ use Rattle.model.proofs.BranchLaws.{cond_holds}
 use Rattle.fields.proofs.MarkLaws.{mark_of_record}
 use Rattle.addresses.specs.Set.{in_set}
 use Rattle.loading.specs.declared.Loading.{Loading}
-use Rattle.loading.specs.declared.Outcome.{Outcome}
-use Rattle.loading.specs.declared.Outcome.TheVariants.{Refused, Next}
+use Rattle.loading.specs.declared.Outcome.TheVariants.{Next}
+use Rattle.loading.specs.declared.error.LoadError.{LoadError}
+use Rattle.fields.specs.declared.rules.Rules.{Rules}
+use Rattle.fields.specs.declared.rules.Rules.TheVariants.{Today, Stored}
+use Rattle.std.specs.Prelude.{Option, Some, None, Result, Ok, Err}
 use Rattle.loading.specs.View.{rules_of, keeps_words, memory_in, set_in, rules_in, as_loading, StoreSized, MemoryWithin, LoadingWithin}
-use Rattle.loading.specs.Record.{outcome_image, Goes, OutcomeWithin, Asked51, word_put, word_outcome, WordTaken, RecordedInStore}
+use Rattle.loading.specs.Record.{outcome_image, Goes, Asked51, word_put, word_outcome, WordTaken, RecordedInStore}
 
 -- A WHOLE RECORD is judged by its own bytes
 front_and_rest : (n : ℕ) (bs rest : List ℕ) → bs ++ rest ≡ take n bs ++ (drop n bs ++ rest)
@@ -42,12 +45,12 @@ number_in_record size a n bs h g =
 
 -- BY A STORE WITHOUT MEMORY an image is read as by today's rules, but for its words
 module _ {A : Type 0} (f : Image.Rules → A) (same : f Image.sizing ≡ f Image.today) where
-  by_rules : (v : Bool) (m : List ℕ) → f (rules_in v m) ≡ f (rules_of v)
+  by_rules : (v : Rules) (m : List ℕ) → f (rules_in v m) ≡ f (rules_of v)
   unfolding rules_in rules_of
-  by_rules true m = refl
-  by_rules false m = cond_holds (λ r. f r ≡ f Image.today) (keeps_words m) (λ _. refl) (λ _. same)
+  by_rules Stored m = refl
+  by_rules Today m = cond_holds (λ r. f r ≡ f Image.today) (keeps_words m) (λ _. refl) (λ _. same)
 
-pub size_in : (v : Bool) (m : List ℕ) (k : Mark) → record_size (rules_in v m) k ≡ record_size (rules_of v) k
+pub size_in : (v : Rules) (m : List ℕ) (k : Mark) → record_size (rules_in v m) k ≡ record_size (rules_of v) k
 size_in v m k = by_rules (λ r. record_size r k) (alike k) v m
   where
     alike : (k : Mark) → record_size Image.sizing k ≡ record_size Image.today k
@@ -56,34 +59,32 @@ size_in v m k = by_rules (λ r. record_size r k) (alike k) v m
     alike WD = unfold record_size in refl
     alike RN = unfold record_size in refl
 
-pub delivery_in : (v : Bool) (m bs : List ℕ) → delivery_at (rules_in v m) bs ≡ delivery_at (rules_of v) bs
+pub delivery_in : (v : Rules) (m bs : List ℕ) → delivery_at (rules_in v m) bs ≡ delivery_at (rules_of v) bs
 delivery_in v m bs = by_rules (λ r. delivery_at r bs) (unfold delivery_at in refl) v m
 
-unless_in : (v : Bool) (m : List ℕ) (w : Bool) → unless_written (rules_in v m) w ≡ unless_written (rules_of v) w
+unless_in : (v : Rules) (m : List ℕ) (w : Bool) → unless_written (rules_in v m) w ≡ unless_written (rules_of v) w
 unless_in v m w = by_rules (λ r. unless_written r w) (unfold unless_written in refl) v m
 
-with_in : (v : Bool) (m : List ℕ) (a : ℕ) (w : ℕ → Bool) → with_written (rules_in v m) a w ≡ with_written (rules_of v) a w
+with_in : (v : Rules) (m : List ℕ) (a : ℕ) (w : ℕ → Bool) → with_written (rules_in v m) a w ≡ with_written (rules_of v) a w
 with_in v m a w = by_rules (λ r. with_written r a w) (unfold with_written in refl) v m
 
 -- WHAT IS LENT
-module _ (b : Bool) (n : ℕ) (m : List ℕ) (z : MemoryWithin b n m) (h : b ≡ true) where
+module _ (given : Option ℕ) (n : ℕ) (m : List ℕ) (z : MemoryWithin given m) (h : given ≡ Some n) where
   pub words_within : n ≤ 8192
-  unfolding MemoryWithin
   words_within = rw h at z
 
-  pub within_still : (m_now : List ℕ) → MemoryWithin b n m_now
-  unfolding MemoryWithin
+  pub within_still : (m_now : List ℕ) → MemoryWithin given m_now
   within_still m_now = rw h words_within
 
   pub address_within : (a : ℕ) → a < n → a < 8192
   address_within a g = let y = words_within in omega arith
 
-module _ (v : Bool) (m : List ℕ) (s : StoreSized v (length m)) where
+module _ (v : Rules) (m : List ℕ) (s : StoreSized v (length m)) where
   pub has_set : 128 ≤ length m
   unfolding StoreSized
   has_set = by_size s
     where
-      by_size : (length m ≡ 8320) ⊎ ((length m ≡ 128) × (v ≡ false)) → 128 ≤ length m
+      by_size : (length m ≡ 8320) ⊎ ((length m ≡ 128) × (v ≡ Today)) → 128 ≤ length m
       by_size (inl e) = omega arith
       by_size (inr e) = let q = e.0 in omega arith
 
@@ -98,7 +99,7 @@ memory_length n m h =
 
 -- what 51 was asked of has its size still
 module _ (v : Image.Rules) (a : ℕ) (m : List ℕ) (answer : Bool) (m_asked : List ℕ) (asked : Asked51 v a m answer m_asked) where
-  pub asked_sized : (b : Bool) → StoreSized b (length m) → StoreSized b (length m_asked)
+  pub asked_sized : (b : Rules) → StoreSized b (length m) → StoreSized b (length m_asked)
   asked_sized b s = subst (StoreSized b) (sym asked.size_same) s
 
   pub asked_kept : answer ≡ false → m_asked ≡ m
@@ -122,33 +123,33 @@ module _ (a w : ℕ) (m : List ℕ) where
   put_nowhere h = rw (le-ltb 128 (length m) h) refl
 
 -- a store with more than the set has all of memory
-pub inside_store : (v : Bool) (m : List ℕ) (a : ℕ) → StoreSized v (length m) → 128 < length m → a < 8192 → a < length m
+pub inside_store : (v : Rules) (m : List ℕ) (a : ℕ) → StoreSized v (length m) → 128 < length m → a < 8192 → a < length m
 unfolding StoreSized
 inside_store v m a s h g = by_size s
   where
-    by_size : (length m ≡ 8320) ⊎ ((length m ≡ 128) × (v ≡ false)) → a < length m
+    by_size : (length m ≡ 8320) ⊎ ((length m ≡ 128) × (v ≡ Today)) → a < length m
     by_size (inl e) = omega arith
     by_size (inr e) = absurd (let q = e.0 in omega arith)
 
 pub ruleset puts = (put_inside, put_nowhere, inside_store)
 
 -- A WORD PUT is the model's, by either store
-record PutAs (v : Bool) (n a w : ℕ) (m m_next : List ℕ) : Type 0 where
+record PutAs (v : Rules) (n a w : ℕ) (m m_next : List ℕ) : Type 0 where
   rules_next : rules_in v m_next ≡ rules_in v m
   memory_next : memory_in n m_next ≡ words_with (rules_in v m) a w (memory_in n m)
   set_next : in_set (set_in m_next) ≡ with_written (rules_in v m) a (in_set (set_in m))
 
-rules_by_length : (v : Bool) (m m_next : List ℕ) → length m_next ≡ length m → rules_in v m_next ≡ rules_in v m
+rules_by_length : (v : Rules) (m m_next : List ℕ) → length m_next ≡ length m → rules_in v m_next ≡ rules_in v m
 unfolding rules_in keeps_words
-rules_by_length true m m_next e = refl
-rules_by_length false m m_next e = ap (λ k. cond (leb 8320 k) Image.today Image.sizing) e
+rules_by_length Stored m m_next e = refl
+rules_by_length Today m m_next e = ap (λ k. cond (leb 8320 k) Image.today Image.sizing) e
 
-set_with_memory : (v : Bool) (m : List ℕ) (a w : ℕ) (xs : List ℕ) → leb 8320 (length m) ≡ true → words_with (rules_in v m) a w xs ≡ set xs a w
+set_with_memory : (v : Rules) (m : List ℕ) (a w : ℕ) (xs : List ℕ) → leb 8320 (length m) ≡ true → words_with (rules_in v m) a w xs ≡ set xs a w
 unfolding rules_in keeps_words words_with
-set_with_memory true m a w xs e = refl
-set_with_memory false m a w xs e = rw e refl
+set_with_memory Stored m a w xs e = refl
+set_with_memory Today m a w xs e = rw e refl
 
-module _ (v : Bool) (n a w : ℕ) (m m_asked : List ℕ) (asked : Asked51 (rules_of v) a m true m_asked) (g : a < n) (h : n ≤ 8192) where
+module _ (v : Rules) (n a w : ℕ) (m m_asked : List ℕ) (asked : Asked51 (rules_of v) a m true m_asked) (g : a < n) (h : n ≤ 8192) where
   put_with_memory : length m ≡ 8320 → PutAs v n a w m (word_put a w m_asked)
   unfolding memory_in keeps_words set_in word_put
   put_with_memory e =
@@ -179,7 +180,7 @@ module _ (v : Bool) (n a w : ℕ) (m m_asked : List ℕ) (asked : Asked51 (rules
           ap set_in (sym put) ∙ ap (λ k. drop (k - 128) (set m_asked a w)) (length-set m_asked a w)
           ∙ drop-set-lt (length m_asked - 128) m_asked a w (let y = asked.size_same in omega arith)
 
-  put_without_memory : length m ≡ 128 → v ≡ false → PutAs v n a w m (word_put a w m_asked)
+  put_without_memory : length m ≡ 128 → v ≡ Today → PutAs v n a w m (word_put a w m_asked)
   unfolding memory_in keeps_words rules_in words_with word_put
   put_without_memory e f =
       record {
@@ -201,98 +202,81 @@ module _ (v : Bool) (n a w : ℕ) (m m_asked : List ℕ) (asked : Asked51 (rules
   unfolding StoreSized
   put_as s = by_size s
     where
-      by_size : (length m ≡ 8320) ⊎ ((length m ≡ 128) × (v ≡ false)) → PutAs v n a w m (word_put a w m_asked)
+      by_size : (length m ≡ 8320) ⊎ ((length m ≡ 128) × (v ≡ Today)) → PutAs v n a w m (word_put a w m_asked)
       by_size (inl e) = put_with_memory e
       by_size (inr e) = put_without_memory e.0 e.1
 
 -- A RECORD IN FRONT, of so many bytes as the rules give it
-module _ (k : Mark) (x : Loading) (m bs : List ℕ) (is_marked : mark_of bs ≡ some k) (whole : record_size (rules_of x.is_stored) k ≤ length bs) where
-  pub loading_front : (rest : List ℕ) → let size = record_size (rules_of x.is_stored) k in
+module _ (k : Mark) (x : Loading) (m bs : List ℕ) (is_marked : mark_of bs ≡ some k) (whole : record_size (rules_of x.rules) k ≤ length bs) where
+  pub loading_front : (rest : List ℕ) → let size = record_size (rules_of x.rules) k in
       image_after (as_loading x m) (bs ++ rest)
       ≡ whole_record_on k (as_loading x m) (length (drop size bs ++ rest)) (take size bs) (λ j. image_after j (drop size bs ++ rest))
   unfolding as_loading
   loading_front rest =
-      let v = x.is_stored in
+      let v = x.rules in
       record_at_front k (as_loading x m) bs is_marked (subst (λ n. n ≤ length bs) (sym (size_in v m k)) whole) rest
       ∙ ap (λ n. whole_record_on k (as_loading x m) (length (drop n bs ++ rest)) (take n bs) (λ j. image_after j (drop n bs ++ rest))) (size_in v m k)
 
 -- 42
-module _ (k : Mark) (x : Loading) (m bs : List ℕ) (e : Bool) (is_marked : mark_of bs ≡ some k) (whole : record_size (rules_of x.is_stored) k ≤ length bs) where
-  pub out_of_order : ((rest : List ℕ) → in_order k (as_loading x m) (length (drop (record_size (rules_of x.is_stored) k) bs ++ rest)) ≡ false) → Goes (as_loading x m) bs e (Refused 42) (as_loading x m)
+module _ (k : Mark) (x : Loading) (m bs : List ℕ) (e : Bool) (is_marked : mark_of bs ≡ some k) (whole : record_size (rules_of x.rules) k ≤ length bs) where
+  pub out_of_order : ((rest : List ℕ) → in_order k (as_loading x m) (length (drop (record_size (rules_of x.rules) k) bs ++ rest)) ≡ false) → Goes (as_loading x m) bs e (Err LoadError.OutOfPlace) (as_loading x m)
   unfolding Goes as_loading outcome_image whole_record_on record_questions ask unless_refused
   out_of_order h rest _ = loading_front k x m bs is_marked whole rest ∙ rw (h rest)
 
 -- WD
 module _ (x : Loading) (m bs : List ℕ) (e : Bool) (is_marked : mark_of bs ≡ some WD) (whole : 14 ≤ length bs) where
-  pub wd_before_me : x.has_memory ≡ false → Goes (as_loading x m) bs e (Refused 42) (as_loading x m)
+  pub wd_before_me : x.words ≡ None → Goes (as_loading x m) bs e (Err LoadError.OutOfPlace) (as_loading x m)
   unfolding as_loading record_size in_order has
   wd_before_me h = out_of_order WD x m bs e is_marked whole (λ rest. rw h)
 
-  module _ (h : x.has_memory ≡ true) (z : MemoryWithin x.has_memory x.words m) (a : ℕ) (q : a ≡ number_at 2 4 bs) where
+  module _ (n : ℕ) (h : x.words ≡ Some n) (z : MemoryWithin x.words m) (a : ℕ) (q : a ≡ number_at 2 4 bs) where
     address : number_at 2 4 (take 14 bs) ≡ a
     address = number_in_record 14 2 4 bs whole (omega arith) ∙ sym q
 
-    sized : length (memory_in x.words m) ≡ x.words
-    sized = memory_length x.words m (words_within _ _ m z h)
+    sized : length (memory_in n m) ≡ n
+    sized = memory_length n m (words_within _ _ m z h)
 
-    pub wd_outside : x.words ≤ a → Goes (as_loading x m) bs e (Refused 44) (as_loading x m)
+    pub wd_outside : n ≤ a → Goes (as_loading x m) bs e (Err LoadError.AddressOutsideMemory) (as_loading x m)
     unfolding Goes as_loading outcome_image record_size whole_record_on record_questions in_order memory_allowed address_allowed memory_of or_else ask has unless_refused
     wd_outside g rest _ = loading_front WD x m bs is_marked whole rest ∙ rw (h, address, sized, le-ltb _ _ g)
 
-    module _ (g : a < x.words) (answer : Bool) (m_asked : List ℕ) (asked : Asked51 (rules_of x.is_stored) a m answer m_asked) where
-      may_be : unless_written (rules_in x.is_stored m) (in_set (set_in m) a) ≡ answer
-      may_be = unless_in x.is_stored m (in_set (set_in m) a) ∙ sym asked.answered
+    module _ (g : a < n) (answer : Bool) (m_asked : List ℕ) (asked : Asked51 (rules_of x.rules) a m answer m_asked) where
+      may_be : unless_written (rules_in x.rules m) (in_set (set_in m) a) ≡ answer
+      may_be = unless_in x.rules m (in_set (set_in m) a) ∙ sym asked.answered
 
-      pub wd_written : answer ≡ false → Goes (as_loading x m) bs e (Refused 51) (as_loading x m_asked)
+      pub wd_written : answer ≡ false → Goes (as_loading x m) bs e (Err LoadError.AddressTwice) (as_loading x m_asked)
       unfolding Goes as_loading outcome_image record_size whole_record_on record_questions in_order memory_allowed address_allowed address_new memory_of or_else ask has unless_refused
-      wd_written n rest _ = loading_front WD x m bs is_marked whole rest ∙ rw (h, address, sized, lt-ltb _ _ g, may_be, n)
+      wd_written denied rest _ = loading_front WD x m bs is_marked whole rest ∙ rw (h, address, sized, lt-ltb _ _ g, may_be, denied)
 
-      pub wd_loaded : answer ≡ true → StoreSized x.is_stored (length m) → (v : ℕ) (m_now : List ℕ) → v ≡ number_at 6 8 bs → m_now ≡ word_put a v m_asked →
-          Goes (as_loading x m) bs e (Next 14) (as_loading x m_now)
+      pub wd_loaded : answer ≡ true → StoreSized x.rules (length m) → (v : ℕ) (m_now : List ℕ) → v ≡ number_at 6 8 bs → m_now ≡ word_put a v m_asked →
+          Goes (as_loading x m) bs e (Ok (Next 14)) (as_loading x m_now)
       unfolding Goes as_loading outcome_image record_size whole_record_on record_questions in_order memory_allowed address_allowed address_new record_on with_record with_word memory_of or_else ask has unless_refused
-      wd_loaded n s v m_now w put rest _ =
+      wd_loaded allowed s v m_now w put rest _ =
           let word : number_at 6 8 (take 14 bs) ≡ v = number_in_record 14 6 8 bs whole (omega arith) ∙ sym w in
-          let p = put_as x.is_stored x.words a v m m_asked (subst (λ b. Asked51 (rules_of x.is_stored) a m b m_asked) n asked) g (words_within _ _ m z h) s in
+          let p = put_as x.rules n a v m m_asked (subst (λ b. Asked51 (rules_of x.rules) a m b m_asked) allowed asked) g (words_within _ _ m z h) s in
           loading_front WD x m bs is_marked whole rest
-          ∙ rw (h, address, sized, lt-ltb _ _ g, may_be, n, word, put, p.rules_next, p.memory_next, p.set_next)
+          ∙ rw (h, address, sized, lt-ltb _ _ g, may_be, allowed, word, put, p.rules_next, p.memory_next, p.set_next)
 
 pub ruleset word_loaded = (not-true, not-false, within_still, address_within, asked_sized, asked_kept, put_size, wd_before_me, wd_outside, wd_written, wd_loaded)
 
 -- A WD AS A RECORD
-module _ (l : Loading) (m bs : List ℕ) (n : ℕ) (m_now : List ℕ) (w : WordTaken l.is_stored l.has_memory l.words m bs n m_now) (within : LoadingWithin l m) where
+module _ {A : Type 0} (l : Loading) (m bs : List ℕ) (x : Result A LoadError) (m_now : List ℕ) (w : WordTaken l.rules l.words m bs x m_now) (within : LoadingWithin l m) where
   pub within_now : LoadingWithin l m_now
-  within_now = record { sized = still_sized l.is_stored m within.sized m_now w.size_same; memory_within = w.memory_within }
+  within_now = record { sized = still_sized l.rules m within.sized m_now w.size_same; memory_within = w.memory_within }
 
-  pub goes_now : (o : Outcome) → word_outcome n ≡ o → (e : Bool) → Goes (as_loading l m) bs e o (as_loading l m_now)
+  pub goes_now : (e : Bool) → Goes (as_loading l m) bs e (word_outcome x) (as_loading l m_now)
   unfolding as_loading
-  goes_now o q e = subst (λ a. Goes (as_loading l m) bs e a (as_loading l m_now)) q (w.goes l.has_registers l.registers e)
+  goes_now e = w.goes l.registers e
 
-  pub goes_refused : (n ≡ 0 → ⊥) → (e : Bool) → Goes (as_loading l m) bs e (Refused n) (as_loading l m_now)
-  unfolding word_outcome
-  goes_refused h e = goes_now (Refused n) (by_number n h) e
-    where
-      by_number : (k : ℕ) → (k ≡ 0 → ⊥) → word_outcome k ≡ Refused k
-      by_number zero h = absurd (h refl)
-      by_number (suc k) h = refl
+  pub recorded_refused : (error : LoadError) → x ≡ Err error → RecordedInStore l m bs (Err error) m_now
+  recorded_refused error q e =
+      record { size_same = w.size_same; within = within_now; goes = rw q at (goes_now e); outcome_within = tt; kept = (refl, rw q at w.kept) }
 
-  pub goes_next : n ≡ 0 → (e : Bool) → Goes (as_loading l m) bs e (Next 14) (as_loading l m_now)
-  unfolding word_outcome
-  goes_next z e = goes_now (Next 14) (ap word_outcome z) e
+  pub goes_next : (a : A) → x ≡ Ok a → (e : Bool) → Goes (as_loading l m) bs e (Ok (Next 14)) (as_loading l m_now)
+  goes_next a q e = rw q at (goes_now e)
 
-  pub recorded_refused : (n ≡ 0 → ⊥) → RecordedInStore l m bs (record { loading = l; outcome = Refused n }) m_now
-  unfolding OutcomeWithin
-  recorded_refused h =
-      record {
-        loading_same = refl;
-        recorded = λ e. record { size_same = w.size_same; within = within_now; goes = goes_refused h e; outcome_within = omega arith; kept = (refl, w.kept h) };
-      }
-
-  pub recorded_next : n ≡ 0 → 14 ≤ length bs → RecordedInStore l m bs (record { loading = l; outcome = Next 14 }) m_now
-  unfolding OutcomeWithin
-  recorded_next z h =
-      record {
-        loading_same = refl;
-        recorded = λ e. record { size_same = w.size_same; within = within_now; goes = goes_next z e; outcome_within = (omega arith, h); kept = tt };
-      }
+  pub recorded_next : (a : A) → x ≡ Ok a → 14 ≤ length bs → RecordedInStore l m bs (Ok (Next 14)) m_now
+  recorded_next a q h e =
+      record { size_same = w.size_same; within = within_now; goes = goes_next a q e; outcome_within = (omega arith, h); kept = tt }
 
 pub ruleset word_recorded = (recorded_refused, recorded_next)

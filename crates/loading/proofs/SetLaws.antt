@@ -9,9 +9,10 @@ use lib.Dec.{eqb}
 use lib.ListN.{length, take, drop, length-drop, drop_of_length-le}
 use lib.Seq.{length-take-le, take_all, take_at, drop_at}
 use borrow.Rule.Slice.PartMut.{put_mid, same_len_mid}
-use Rattle.model.specs.Image as Image
 use Rattle.model.specs.Image.{unless_written, with_written}
 use Rattle.addresses.specs.Set.{in_set, PutIn}
+use Rattle.fields.specs.declared.rules.Rules.{Rules}
+use Rattle.fields.specs.declared.rules.Rules.TheVariants.{Today, Stored}
 use Rattle.loading.specs.View.{rules_of, set_in, StoreSized}
 use Rattle.loading.specs.Record.{Asked51}
 use Rattle.loading.proofs.RecordLaws.{has_set}
@@ -26,8 +27,8 @@ module _ (b : ℕ) (m s : List ℕ) (h : b ≤ length m) where
       drop_at (take b m) _ b (length-take-le b m h)
       ∙ ap (λ xs. s ++ xs) (drop_of_length-le (drop b m) {i = length m - b} (let z = length-drop b m in omega arith)) ∙ append-nil s
 
-module _ (v : Bool) (a : ℕ) (m : List ℕ) where
-  pub stored_asks_nothing : v ≡ true → Asked51 (rules_of v) a m true m
+module _ (v : Rules) (a : ℕ) (m : List ℕ) where
+  pub stored_asks_nothing : v ≡ Stored → Asked51 (rules_of v) a m true m
   unfolding rules_of unless_written with_written
   stored_asks_nothing e =
       record { answered = rw e refl; memory_same = refl; size_same = refl; set_now = λ _. rw e refl; kept = λ f. absurd (true≢false f) }
@@ -49,7 +50,7 @@ module _ (v : Bool) (a : ℕ) (m : List ℕ) where
       pub set_within : at ≤ length m
       set_within = omega arith
 
-    module _ (e : v ≡ false) (r : Bool) (is : r ≡ in_set the_set a) where
+    module _ (e : v ≡ Today) (r : Bool) (is : r ≡ in_set the_set a) where
       found : in_set (set_in m) a ≡ r
       found = ap (λ s. in_set s a) (sym set_is_end) ∙ sym is
 
@@ -84,12 +85,12 @@ module _ (v : Bool) (a : ℕ) (m : List ℕ) where
 pub ruleset asks_51 = (has_set, stored_asks_nothing, set_size, set_within, written_before, new_put)
 
 -- WHERE IT STARTS
-module _ (v : Bool) (m : List ℕ) (s : StoreSized v (length m)) where
+module _ (v : Rules) (m : List ℕ) (s : StoreSized v (length m)) where
   pub after_memory : 128 < length m → 8192 ≡ length m - 128
   unfolding StoreSized
   after_memory h = by_size s
     where
-      by_size : (length m ≡ 8320) ⊎ ((length m ≡ 128) × (v ≡ false)) → 8192 ≡ length m - 128
+      by_size : (length m ≡ 8320) ⊎ ((length m ≡ 128) × (v ≡ Today)) → 8192 ≡ length m - 128
       by_size (inl e) = omega arith
       by_size (inr e) = absurd (let q = e.0 in omega arith)
 

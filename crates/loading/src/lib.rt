@@ -4,69 +4,47 @@
 ghost use Rattle.std.specs.Prelude.{◌≡◌, length, replicate};
 ghost use Rattle.loading.specs.View.{Starts, StartsSizing};
 
-use host::record::{DescriptorBase, Pointer, Registers};
-use state::Delivery;
+use fields::rules::Rules;
+use host::record::Registers;
 
+pub mod error;
 pub mod word;
 
-// The store is lent beside this: 8,192 words, of which the first `words`, ME's number, are the image's memory, and after them 128
-// words that are the set of the addresses that a WD has had; for an image's needs the set alone. `is_stored`: by the rules of
-// stored images.
+// ME's number of words, and ST's registers. The store is lent beside this: 8,192 words, of which the first `words` are the image's
+// memory, and after them 128 words that are the set of the addresses that a WD has had; for an image's needs the set alone.
 #[derive(Clone, Copy)]
 pub struct Loading {
-    pub is_stored: bool,
-    pub has_memory: bool,
+    pub rules: Rules,
+    pub words: Option<u32>,
+    pub registers: Option<Registers>,
+}
+
+// An image with all of its records, its budget from RN; 1 to 4 are yet to be asked.
+#[derive(Clone, Copy)]
+pub struct Start {
     pub words: u32,
-    pub has_registers: bool,
     pub registers: Registers,
+    pub budget: u32,
 }
 
 #[derive(Clone, Copy)]
 pub enum Outcome {
-    // The first question with a no.
-    Refused(u8),
     // The bytes don't hold a whole record, or not all of what decides it.
     Waits,
     // A record of so many bytes was loaded.
     Next(usize),
-    // RN has come, with its budget; 1 to 4 are yet to be asked.
-    Ready(u32),
-}
-
-#[derive(Clone, Copy)]
-pub struct Recorded {
-    pub loading: Loading,
-    pub outcome: Outcome,
+    // RN has come.
+    Ready(Start),
 }
 
 // Before the first record; what is lent is zeros.
-pub fn nothing_loaded(is_stored: bool) -> Loading
-    ensures { Starts is_stored result × StartsSizing is_stored result }
+pub fn nothing_loaded(rules: Rules) -> Loading
+    ensures { Starts rules result × StartsSizing rules result }
 {
-    let zero = Pointer {
-        ring: 0,
-        segment: 0,
-        word: 0,
-    };
     Loading {
-        is_stored,
-        has_memory: false,
-        words: 0,
-        has_registers: false,
-        registers: Registers {
-            a: 0,
-            dbr: DescriptorBase {
-                address: 0,
-                length: 0,
-            },
-            ipr: zero,
-            prs: [0; 24],
-            delivery: Delivery {
-                switch: 0,
-                save: 0,
-                handler: 0,
-            },
-        },
+        rules,
+        words: None,
+        registers: None,
     }
 }
 

@@ -2,9 +2,9 @@
 use mathlib.Core.Path.{◌≡◌, refl, sym, ◌∙◌, ap, ap₂, subst}
 use mathlib.Core.Bool.{Bool, true, false, cond}
 use mathlib.Core.List.{List, ◌∷◌}
-use Prim.Native.Nat.{ℕ, zero, suc, ◌+◌, ◌≤◌, ◌<◌}
+use Prim.Native.Nat.{ℕ, zero, suc, ◌+◌}
 use native.Mathlib.Omega.{arith}
-use lib.ListN.{length, take}
+use lib.ListN.{take}
 use Rattle.model.specs.Registers.{Delivery, no_delivery, Machine}
 use Rattle.model.specs.Answers.{Numbers, reply_numbers}
 use Rattle.model.specs.Questions.{delivery_in_range, start_questions}
@@ -17,6 +17,8 @@ use Rattle.model.proofs.SoundLaws.{delivery_passes}
 use Rattle.model.proofs.DeliveredLaws.{same_start}
 use Rattle.model.proofs.RunLaws.{run_refused, run_goes, trace_refused, trace_goes}
 use Rattle.model.proofs.TickLaws.{fault_count_goes, fault_count_refused}
+use Rattle.questions.specs.Numbers.{start_number}
+use Rattle.questions.specs.declared.start.StartError.{StartError}
 use Rattle.state.specs.View.{as_machine}
 use Rattle.state.specs.declared.Core.{Core}
 use Rattle.state.specs.Reply.{as_reply}
@@ -29,6 +31,12 @@ use Rattle.answers.specs.declared.Answered.{Answered}
 use Rattle.answers.proofs.AnswerLaws.{count_completed}
 use Rattle.machine.specs.Answered.{pointers_read, AnsweredAs}
 use Rattle.plain.proofs.PlainLaws.{passing_in_record}
+
+pub from_one : (e : StartError) → start_number e ≡ 0 → ⊥
+from_one StartError.MemoryTooLarge z = omega (arith, z)
+from_one StartError.OutOfRange z = omega (arith, z)
+from_one StartError.RingsBelow z = omega (arith, z)
+from_one StartError.BaseOutsideMemory z = omega (arith, z)
 
 module _ (dv : Delivery) where
   -- THE DEFINITION'S RUN is the run by its step

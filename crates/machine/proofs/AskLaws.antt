@@ -2,34 +2,51 @@
 use mathlib.Core.Path.{◌≡◌, refl, sym, ◌∙◌, ap, ap₂}
 use mathlib.Core.Bool.{Bool, true, false, not}
 use mathlib.Core.List.{List}
-use Prim.Native.Nat.{ℕ, zero, suc}
+use Prim.Native.Nat.{ℕ, zero, suc, ◌<◌, ◌≤◌}
 use native.Mathlib.Omega.{arith}
 use lib.ListN.{length}
 use borrow.Author.Tests.{not-true, not-false}
+use Rattle.std.specs.Prelude.{Result, Ok, Err, IsOk}
 use Rattle.model.specs.Registers as Model
 use Rattle.model.specs.Registers.{Delivery, no_delivery, Machine}
 use Rattle.model.specs.Answers.{Numbers, numbers, reply_numbers}
 use Rattle.model.specs.Questions.{ask, memory_fits, delivery_in_range, start_questions}
-use Rattle.model.specs.Run as Run
 use Rattle.model.specs.Run.{ran}
 use Rattle.model.proofs.DeliveredLaws.{same_start}
-use Rattle.state.specs.View.{as_pointers, as_machine}
+use Rattle.questions.specs.Numbers.{Starts}
+use Rattle.questions.specs.declared.start.StartError.{StartError}
+use Rattle.questions.specs.declared.start.UnknownNumber.{UnknownNumber}
+use Rattle.state.specs.View.{as_machine}
 use Rattle.state.specs.declared.Core.{Core}
 use Rattle.host.specs.Record.{machine_of, delivery_of, Converted}
 use Rattle.host.specs.declared.record.Registers.{Registers}
 use Rattle.host.proofs.RecordLaws.{delivery_answer}
 use Rattle.run.specs.Run.{run_by}
-use Rattle.answers.specs.Answer.{as_numbers}
+use Rattle.answers.specs.Answer.{kind_number}
+use Rattle.answers.specs.declared.Kind.TheVariants as Kind
+use Rattle.answers.proofs.AnswerLaws.{kind_refused}
 use Rattle.answers.specs.declared.Answered.{Answered}
-use Rattle.machine.specs.Answered.{PreparedAs}
 use Rattle.plain.specs.Plain.{PlainAs}
-use Rattle.machine.specs.declared.Prepared.{Prepared}
 
 -- the same machine, with the core that it was given
 same_core : (c d : Core) (prs memory prs_now memory_now : List ℕ) → as_machine d prs_now memory_now ≡ as_machine c prs memory → as_machine c prs_now memory_now ≡ as_machine c prs memory
 same_core c d prs memory prs_now memory_now e =
     ap₂ (λ ps m. record { registers = record { a = c.a; dbr = (as_machine c prs memory).registers.dbr; ipr = (as_machine c prs memory).registers.ipr; prs = ps }; memory = m })
     (ap (λ (k : Machine). k.registers.prs) e) (ap (λ (k : Machine). k.memory) e)
+
+ask_small : (b : Bool) (n x : ℕ) → n ≤ 4 → x ≤ 4 → ask b n x ≤ 4
+unfolding ask
+ask_small true n x h k = k
+ask_small false n x h k = h
+
+start_small : (v : Delivery) (m : Machine) → start_questions v m ≤ 4
+unfolding start_questions
+start_small v m = ask_small _ 1 _ (omega arith) (ask_small _ 2 _ (omega arith) (ask_small _ 3 _ (omega arith) (ask_small _ 4 _ (omega arith) (omega arith))))
+
+-- a number of 1 to 4 has its question
+pub numbered : (n : ℕ) (r : Result StartError UnknownNumber) → Starts n r → (0 < n) × (n ≤ 4) → IsOk r
+numbered n (Ok e) s h = refl
+numbered n (Err u) s h = absurd (omega (arith, s h.0, h.1))
 
 module _ (v : Delivery) (c : Core) (prs memory : List ℕ) (b : Bool) (e : b ≡ delivery_in_range v) where
   abbrev given : Machine
@@ -44,41 +61,42 @@ module _ (v : Delivery) (c : Core) (prs memory : List ℕ) (b : Bool) (e : b ≡
     start : start_questions v given ≡ start_questions no_delivery given
     start = same_start v no_delivery (sym e ∙ not-false b h) (unfold delivery_in_range in refl) given
 
-    record Asked (n : ℕ) : Type 0 where
-      kind_then : x.kind ≡ 0 → x.number ≡ n
-      kind_else : (x.kind ≡ 0 → ⊥) → n ≡ 0
-      left : as_machine c prs_now memory_now ≡ given
-
-    asked : (n : ℕ) → start_questions no_delivery given ≡ n → Asked n
+    -- the answer's number is that of the first no, whichever kind it has
+    asked : (n : ℕ) → start_questions no_delivery given ≡ n → (kind_number x.kind ≡ 0 → x.number ≡ n) × ((kind_number x.kind ≡ 0 → ⊥) → n ≡ 0) × (as_machine c prs_now memory_now ≡ given)
     unfolding reply_numbers numbers ran run_by
     asked zero f =
         let r = w.runs f in
         let k = ap (λ (q : Numbers). q.kind) r.numbers_same in
-        record { kind_then = λ z. absurd (omega (arith, z, k)); kind_else = λ _. refl; left = same_core c x.core prs memory prs_now memory_now r.machine_same }
+        (λ z. absurd (omega (arith, z, k)), λ _. refl, same_core c x.core prs memory prs_now memory_now r.machine_same)
     asked (suc n) f =
         let r = w.refuses n f in
-        record {
-          kind_then = λ _. ap (λ (q : Numbers). q.number) r.numbers_same;
-          kind_else = λ z. absurd (z (ap (λ (q : Numbers). q.kind) r.numbers_same));
-          left = ap₂ (λ p m. as_machine c p m) r.prs_same r.memory_same;
-        }
+        (λ _. ap (λ (q : Numbers). q.number) r.numbers_same, λ z. absurd (z (ap (λ (q : Numbers). q.kind) r.numbers_same)), ap₂ (λ p m. as_machine c p m) r.prs_same r.memory_same)
 
-    pub ask_refused : x.kind ≡ 0 → (x.number ≡ start_questions v given) × (as_machine c prs_now memory_now ≡ given)
-    ask_refused z = let a = asked _ refl in (a.kind_then z ∙ sym start, a.left)
+    -- a refusal has the number of one of 1 to 4
+    pub ask_numbered : x.kind ≡ Kind.Refused → (0 < x.number) × (x.number ≤ 4)
+    unfolding reply_numbers numbers ran run_by
+    ask_numbered z = by_answer _ refl
+      where
+        by_answer : (n : ℕ) → start_questions no_delivery given ≡ n → (0 < x.number) × (x.number ≤ 4)
+        by_answer zero f = let k = ap (λ (q : Numbers). q.kind) (w.runs f).numbers_same in absurd (omega (arith, ap kind_number z, k))
+        by_answer (suc n) f = let e = (asked _ f).0 (ap kind_number z) in (omega (arith, e), omega (arith, e, f, start_small no_delivery given))
 
-    pub ask_passed : (x.kind ≡ 0 → ⊥) → (0 ≡ start_questions v given) × (as_machine c prs_now memory_now ≡ given)
-    ask_passed z = let a = asked _ refl in (sym (start ∙ a.kind_else z), a.left)
+    pub ask_stays : as_machine c prs_now memory_now ≡ given
+    ask_stays = (asked _ refl).2
+
+    pub ask_refused : x.kind ≡ Kind.Refused → x.number ≡ start_questions v given
+    ask_refused z = (asked _ refl).0 (ap kind_number z) ∙ sym start
+
+    pub ask_passed : (x.kind ≡ Kind.Refused → ⊥) → 0 ≡ start_questions v given
+    ask_passed z = sym (start ∙ (asked _ refl).1 (λ k. z (kind_refused x.kind k)))
 
 -- A HOST'S RECORD
-pub prepared : (r : Registers) (c : Core) → Converted r c → (memory : List ℕ) (n : ℕ) (prs_now memory_now : List ℕ) → n ≡ start_questions (delivery_of r) (as_machine c r.prs memory) →
-    as_machine c prs_now memory_now ≡ as_machine c r.prs memory → PreparedAs r memory (record { number = n; core = c; prs = prs_now }) memory_now
-prepared r c e memory n prs_now memory_now f g =
-    record { asked = f ∙ ap (start_questions (delivery_of r)) given_same; same = λ _. g ∙ given_same }
-  where
-    given_same : as_machine c r.prs memory ≡ machine_of r memory
-    given_same = ap (λ (q : Model.Registers). record { registers = q; memory = memory }) e.same
+module _ (r : Registers) (c : Core) (e : Converted r c) (memory : List ℕ) where
+  given_same : as_machine c r.prs memory ≡ machine_of r memory
+  given_same = ap (λ (q : Model.Registers). record { registers = q; memory = memory }) e.same
 
--- WHERE THEY PASS, the core and its PRs pass too
-pub prepared_passes : (r : Registers) (memory : List ℕ) (x : Prepared) (memory_now : List ℕ) → PreparedAs r memory x memory_now → x.number ≡ 0 →
-    start_questions (delivery_of r) (as_machine x.core x.prs memory_now) ≡ 0
-prepared_passes r memory x memory_now p z = ap (start_questions (delivery_of r)) (p.same z) ∙ sym p.asked ∙ z
+  pub prepared_asked : (n : ℕ) → n ≡ start_questions (delivery_of r) (as_machine c r.prs memory) → n ≡ start_questions (delivery_of r) (machine_of r memory)
+  prepared_asked n f = f ∙ ap (start_questions (delivery_of r)) given_same
+
+  pub prepared_same : (prs_now memory_now : List ℕ) → as_machine c prs_now memory_now ≡ as_machine c r.prs memory → as_machine c prs_now memory_now ≡ machine_of r memory
+  prepared_same prs_now memory_now g = g ∙ given_same

@@ -1,5 +1,5 @@
 -- What a run answers, 1 to 4 asked first. Assumes nothing: these are definitions.
-use Rattle.std.specs.Prelude.{◌≡◌, Bool, cond, List, ℕ, ◌+◌, ◌≤◌, length, take}
+use Rattle.std.specs.Prelude.{◌≡◌, Bool, cond, List, ℕ, ◌+◌, ◌≤◌, length, take, Result, Ok, Err}
 use Rattle.model.specs.Registers.{Delivery, Machine}
 use Rattle.model.specs.Answers.{reply_numbers}
 use Rattle.model.specs.Questions.{start_questions}
@@ -11,6 +11,8 @@ use Rattle.host.specs.declared.record.Registers.{Registers}
 use Rattle.run.specs.Run.{noted_steps}
 use Rattle.answers.specs.Answer.{as_numbers, AnswerFits}
 use Rattle.answers.specs.declared.Answered.{Answered}
+use Rattle.questions.specs.Numbers.{start_number}
+use Rattle.questions.specs.declared.start.StartError.{StartError}
 use Rattle.machine.specs.declared.Prepared.{Prepared}
 
 -- the pointer words of a run: its total, and as a single step with those of the step at which it faults
@@ -28,7 +30,7 @@ pub record AnsweredAs (v : Delivery) (single : Bool) (budget : ℕ) (c : Core) (
   pub traced : start_questions v (as_machine c prs memory) ≡ 0 → budget ≤ length trace → noted_steps (take x.count trace_now) ≡ Run.trace_from v budget (as_machine c prs memory)
   pub pointers_same : x.pointers ≡ pointers_read v single budget (as_machine c prs memory)
 
--- 1 to 4 of a host's record, and where they pass the machine itself, as it was
-pub record PreparedAs (r : Registers) (memory : List ℕ) (x : Prepared) (memory_now : List ℕ) : Type 0 where
-  pub asked : x.number ≡ start_questions (delivery_of r) (machine_of r memory)
-  pub same : x.number ≡ 0 → as_machine x.core x.prs memory_now ≡ machine_of r memory
+-- 1 to 4 of a host's record: the first no, or the machine itself, as it was
+abbrev pub PreparedAs : Registers → (memory : List ℕ) → Result Prepared StartError → (memory_now : List ℕ) → Type 0
+PreparedAs r memory (Err e) memory_now = start_number e ≡ start_questions (delivery_of r) (machine_of r memory)
+PreparedAs r memory (Ok x) memory_now = (0 ≡ start_questions (delivery_of r) (machine_of r memory)) × (as_machine x.core x.prs memory_now ≡ machine_of r memory)

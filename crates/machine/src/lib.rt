@@ -4,30 +4,36 @@
 ghost use Rattle.std.specs.Prelude.{◌≡◌};
 ghost use Rattle.model.specs.Questions.{start_questions};
 ghost use Rattle.state.specs.View.{as_machine, as_delivery};
+ghost use Rattle.questions.specs.Numbers.{number_by, start_number};
 ghost use Rattle.plain.specs.Plain.{core_of};
 ghost use Rattle.machine.specs.Answered.{AnsweredAs, PreparedAs};
 
-use answers::{Answered, answer_of};
+use answers::{Answered, Kind, answer_of};
 use host::record::Registers;
+use questions::start::StartError;
 use segments::translate::Dbr;
 use state::reply::Reply;
 use state::{Core, Delivery};
 use words::pointer::{Pointer, SegmentNumber, WordNumber};
 
-// 1 to 4 alone: the number of the first no, or 0. It is a run of no steps, so that the one big function stays the only one that
-// asks them.
-fn ask(delivery: Delivery, core: Core, prs: &mut [u16; 24], memory: &mut [u64]) -> u8
-    ensures { (result ≡ start_questions (as_delivery delivery) (as_machine core prs.old memory.old)) × (as_machine core prs.new memory.new ≡ as_machine core prs.old memory.old) }
+// 1 to 4 alone. It is a run of no steps, so that the one big function stays the only one that asks them.
+fn ask(
+    delivery: Delivery,
+    core: Core,
+    prs: &mut [u16; 24],
+    memory: &mut [u64],
+) -> Result<(), StartError>
+    ensures answer { number_by start_number result ≡ start_questions (as_delivery delivery) (as_machine core prs.old memory.old) }
+    ensures stays { as_machine core prs.new memory.new ≡ as_machine core prs.old memory.old }
 {
     if !host::start::is_delivery(delivery) {
-        return host::start::delivery_refused(memory);
+        return Err(host::start::delivery_refused(memory));
     }
-    let mut none: [u64; 0] = [];
-    let x = plain::run(core, prs, memory, 0, &mut none);
-    if x.kind == 0 {
-        return x.number as u8;
+    let x = plain::run(core, prs, memory, 0, &mut []);
+    if x.kind == Kind::Refused {
+        return Err(StartError::try_from(x.number as u8).unwrap());
     }
-    0
+    Ok(())
 }
 
 // A, DBR and IPR come one by one, the PRs where the host has them. `single`: pointer words as a single step has them.
@@ -56,9 +62,8 @@ pub fn run(
             word: WordNumber(word),
         },
     };
-    let n = ask(delivery, core, prs, memory);
-    if n != 0 {
-        return answer_of(Reply::Refused(n), core, 0);
+    if let Err(error) = ask(delivery, core, prs, memory) {
+        return answer_of(Reply::Refused(error.number()), core, 0);
     }
     let y = delivered::run(delivery, core, prs, memory, budget, trace);
     let reply = y.reply;
@@ -66,20 +71,19 @@ pub fn run(
     answer_of(reply, after, plain::counted(single, y.total, y.last))
 }
 
-// The number of the first no of 1 to 4, or 0; with 0 the core and its PRs are the record's.
+// The core and the PRs of a host's record.
 #[derive(Clone, Copy)]
 pub struct Prepared {
-    pub number: u8,
     pub core: Core,
     pub prs: [u16; 24],
 }
 
 // 1 to 4 of a host's record.
-pub fn prepare(registers: Registers, memory: &mut [u64]) -> Prepared
+pub fn prepare(registers: Registers, memory: &mut [u64]) -> Result<Prepared, StartError>
     ensures { PreparedAs registers memory.old result memory.new }
 {
     let core = host::record::core_of(registers);
     let mut prs = registers.prs;
-    let number = ask(registers.delivery, core, &mut prs, memory);
-    Prepared { number, core, prs }
+    ask(registers.delivery, core, &mut prs, memory)?;
+    Ok(Prepared { core, prs })
 }

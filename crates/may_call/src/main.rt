@@ -17,12 +17,11 @@ fn print_verdict(rt: &impl Print, verdict: Verdict)
 // What the image itself is refused for comes first, then the check.
 fn check_image(rt: &(impl Input + Print + Eprint), ring: u8, segment: u16, word: u16) {
     let mut store = loading::empty_store();
-    let x = reading::image_on_input(rt, &mut store);
-    if x.is_whole {
-        let words = x.words;
+    if let Some(start) = reading::image_on_input(rt, &mut store) {
+        let memory = &store[..start.words as usize];
         print_verdict(
             rt,
-            checks::ask(x.registers, &store[..words], ring, segment, word),
+            checks::ask(start.registers, memory, ring, segment, word),
         );
     }
 }
@@ -30,11 +29,10 @@ fn check_image(rt: &(impl Input + Print + Eprint), ring: u8, segment: u16, word:
 // RING, SEGNO and WORDNO, in five bytes, each high byte first; then the image.
 fn main(rt: HostRuntime) {
     let mut bytes = [0u8; 5];
-    let x = streams::read_whole(&rt, &mut bytes);
-    if x.has_failed {
+    let Ok(size) = streams::read_whole(&rt, &mut bytes) else {
         return;
-    }
-    if x.size < 5 {
+    };
+    if size < 5 {
         streams::print_refusal(&rt, 41);
         return;
     }

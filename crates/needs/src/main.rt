@@ -7,7 +7,8 @@ ghost use Rattle.model.specs.Needs.{need_line, needs_lines};
 ghost use Rattle.sizing.specs.View.{as_needs};
 ghost use Rattle.text.specs.Text.{Put};
 
-use image::load::LoadOutcome;
+use image::error::ImageError;
+use reading::error::ReadError;
 use sizing::Needs;
 
 // A name with a space after it, and a number, as a line.
@@ -47,25 +48,22 @@ fn print_needs(rt: &impl Print, needs: Needs) {
     streams::print(rt, &text, size);
 }
 
-// The image is read in pieces, of which no word is kept. `More`: it can't be read, as has been said.
-fn main(rt: HostRuntime) {
+// What the image on standard input will need, read in pieces of which no word is kept; none where it can't be read, which has been
+// told.
+fn needs_on_input(rt: &(impl Input + Eprint)) -> Option<Needs> {
     let mut set = loading::empty_set();
-    let x = reading::read_image(&rt, &mut set);
-    let length = x.length;
-    let loaded = x.loaded;
-    let loading = loaded.loading;
-    let outcome = loaded.outcome;
-    match outcome {
-        LoadOutcome::Refused(n) => {
-            print_needs(&rt, sizing::refused(n));
-        }
-        LoadOutcome::More(_kept) => {}
-        LoadOutcome::Ready(budget) => {
-            let registers = loading.registers;
-            print_needs(
-                &rt,
-                sizing::needs_of(registers, loading.words, budget, length),
-            );
-        }
+    match reading::read_image(rt, &mut set) {
+        Ok(read) => match sizing::needs_of(read.start, read.length) {
+            Ok(needs) => Some(needs),
+            Err(error) => Some(sizing::refused(ImageError::Start(error))),
+        },
+        Err(ReadError::Refused(error)) => Some(sizing::refused(ImageError::Load(error))),
+        Err(ReadError::InputFailed) => None,
+    }
+}
+
+fn main(rt: HostRuntime) {
+    if let Some(needs) = needs_on_input(&rt) {
+        print_needs(&rt, needs);
     }
 }

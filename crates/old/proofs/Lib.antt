@@ -1,3 +1,2 @@
--- Laws behind the functions' proofs. Assumes nothing.
-pub mod WordLaws
+-- The laws that the proofs of this crate rest on. Assumes nothing.
 pub mod SegmentLaws

@@ -1,14 +1,13 @@
 -- A segment judged and converted word by word. Assumes nothing.
-use mathlib.Core.Path.{◌≡◌, refl, sym, ap, ◌∙◌}
-use mathlib.Core.List.{List, [], ◌∷◌, ◌++◌, map, append-nil}
-use Prim.Native.Nat.{ℕ, zero, suc, ◌+◌, ◌≤◌, ◌<◌}
-use native.Mathlib.Numerals.{add-one}
-use native.Mathlib.Omega.{arith}
-use lib.ListN.{length, get_or, set, take, drop, drop_of_length-le}
-use lib.Seq.{take_all, drop-cons, append_snoc, take-suc-set, drop-set-lt}
+use Rattle.std.proofs.Common.{◌≡◌, ◌≢◌, refl, sym, ap, ◌∙◌, List, [], ◌∷◌, ◌++◌, map, ℕ, zero, suc, ◌+◌, ◌≤◌, ◌<◌, arith, add-one, length, get_or, set, take, drop, drop-cons}
+use mathlib.Core.List.{append-nil}
+use lib.ListN.{drop_of_length-le}
+use lib.Seq.{take_all, append_snoc, take-suc-set, drop-set-lt}
 use borrow.Author.Tests.{ne_eqb}
 use Rattle.model.specs.Old.{Way, form_questions, converted_word, Answer, or_fails, words_answer, convert_words}
 use Rattle.formats.proofs.OldLaws.{all_written}
+use Rattle.old.specs.declared.word.FormError.{FormError}
+use Rattle.old.specs.View.{form_number}
 
 -- THE WORDS STILL TO COME give the answer of all
 module _ (y : Way) (i : ℕ) (ws : List ℕ) (z : words_answer y i (drop i ws) ≡ words_answer y 0 ws) where
@@ -31,7 +30,11 @@ module _ (y : Way) (i : ℕ) (ws : List ℕ) (z : words_answer y i (drop i ws) �
   unfolding words_answer
   words_pass h = sym (ap (words_answer y i) (drop_of_length-le ws h)) ∙ z
 
-pub ruleset answer_laws = (word_fails, word_passes, words_pass)
+pub form_number_not_0 : (e : FormError) → form_number e ≢ 0
+form_number_not_0 FormError.NotOld h = omega arith
+form_number_not_0 FormError.NotConvertible h = omega arith
+
+pub ruleset answer_laws = (word_fails, word_passes, words_pass, form_number_not_0)
 
 -- THE WORDS ARE CONVERTED from one on; those before it are already
 unfoldable pub converted_on : Way → (from : ℕ) → List ℕ → List ℕ
@@ -53,13 +56,11 @@ module _ (y : Way) (i : ℕ) (ws xs : List ℕ) (z : converted_on y i ws ≡ xs)
       ∙ ap (λ u. take i ws ++ u ∷ map f (drop (suc i) ws)) e
       ∙ ap (λ l. take i ws ++ map f l) (sym (drop-cons ws i 0 h)) ∙ z
 
-  pub words_converted : (n : ℕ) → length ws ≡ n → n ≤ i → ws ≡ xs
-  unfolding converted_on
-  words_converted n e g =
-      let h : length ws ≤ i = omega arith in
-      sym (append-nil ws) ∙ ap (λ l. l ++ []) (sym (take_all i ws h)) ∙ ap (λ l. take i ws ++ map (converted_word y) l) (sym (drop_of_length-le ws h)) ∙ z
+pub all_converted : (y : Way) (i : ℕ) (ws : List ℕ) → length ws ≤ i → converted_on y i ws ≡ ws
+unfolding converted_on
+all_converted y i ws h = ap (λ l. take i ws ++ map (converted_word y) l) (drop_of_length-le ws h) ∙ append-nil (take i ws) ∙ take_all i ws h
 
-pub ruleset each_laws = (none_converted, word_converted, words_converted)
+pub ruleset each_laws = (none_converted, word_converted, all_converted)
 
 -- THE CALL
 module _ (y : Way) (ws : List ℕ) (x : Answer) (e : x ≡ words_answer y 0 ws) where

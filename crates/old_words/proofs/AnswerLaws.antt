@@ -8,7 +8,7 @@ use lib.ListN.{length, take}
 use lib.Seq.{length-take-le}
 use borrow.Author.Tests.{eq-eqb, ne_eqb}
 use Rattle.model.specs.Listing.{ascii, decimal, line}
-use Rattle.model.specs.Old.{Way, words_at, words_bytes, Converted, convert_words, converted_text, words_text}
+use Rattle.model.specs.Old.{Way, Answer, words_at, words_bytes, Converted, convert_words, converted_text, words_text}
 use Rattle.formats.proofs.OldLaws.{conversion_within}
 use Rattle.text.specs.Text.{placed, Put}
 use Rattle.text.proofs.TextLaws.{length_placed, both_put}
@@ -45,28 +45,23 @@ module _ (n k : ℕ) (ws t u : List ℕ) (r : ℕ) where
   words_answered e l x =
       subst (λ xs. Put 32768 0 xs t u r) (sym (ap (λ b. cond b (words_bytes ws) (refusal n k)) (eq-eqb n 0 e))) (x.0, x.1, omega (arith, x.2))
 
-pub ruleset answer_laws = (refused_put, words_answered)
-
 -- of the words that the bytes hold
-module _ (y : Way) (ws : List ℕ) (n k : ℕ) (e : record { number = n; index = k } ≡ (convert_words y ws).answer) where
-  pub number_short : n < 65536
-  number_short = let h = (conversion_within y ws).0 in let z = ap (λ a. a.number) e in omega arith
-
-  pub index_short : (count : ℕ) (bs : List ℕ) → ws ≡ words_at count 0 bs → count ≤ 4096 → k < 65536
+module _ (y : Way) (ws : List ℕ) (x : Answer) (e : x ≡ (convert_words y ws).answer) where
+  pub index_short : (count : ℕ) (bs : List ℕ) → ws ≡ words_at count 0 bs → count ≤ 4096 → x.index < 65536
   index_short count bs read l =
       let h = (conversion_within y ws).1 in
       let z = ap (λ a. a.index) e in
       omega (arith, ap length read, length_words_at count 0 bs)
 
   pub text_put : (count : ℕ) (vs bs t u : List ℕ) (r : ℕ) → ws ≡ words_at count 0 bs → 8 * count ≡ length bs → vs ≡ (convert_words y ws).words →
-      Put 32768 0 (converted_text (record { answer = record { number = n; index = k }; words = vs })) t u r → Put 32768 0 (words_text y bs) t u r
+      Put 32768 0 (converted_text (record { answer = x; words = vs })) t u r → Put 32768 0 (words_text y bs) t u r
   unfolding words_text
-  text_put count vs bs t u r read whole left x =
+  text_put count vs bs t u r read whole left p =
       let m : length bs / 8 ≡ count = omega arith in
       let same : convert_words y ws ≡ convert_words y (words_at (length bs / 8) 0 bs) = ap (convert_words y) (read ∙ ap (λ j. words_at j 0 bs) (sym m)) in
-      subst (λ xs. Put 32768 0 xs t u r) ((λ i. converted_text (record { answer = e i; words = left i })) ∙ ap converted_text same) x
+      subst (λ xs. Put 32768 0 xs t u r) ((λ i. converted_text (record { answer = e i; words = left i })) ∙ ap converted_text same) p
 
-pub ruleset text_laws = (number_short, index_short, text_put)
+pub ruleset text_laws = (index_short, text_put)
 
 -- the front of what is lent
 module _ (n : ℕ) (xs : List ℕ) (h : n ≤ length xs) where

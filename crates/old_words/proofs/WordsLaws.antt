@@ -74,7 +74,7 @@ module _ (i : ℕ) (ws t z : List ℕ) (e : placed (8 * i) (words_bytes (drop i 
   unfolding words_bytes
   words_put h = sym (placed_none (8 * i) t) ∙ ap (λ l. placed (8 * i) (words_bytes l) t) (sym (drop_of_length-le ws h)) ∙ e
 
-pub after_words : (ws : List ℕ) (i : ℕ) → i ≤ length ws → length ws ≤ i → 8 * i ≡ 0 + length (words_bytes ws)
-after_words ws i h g = omega (arith, length_words_bytes ws)
+pub after_words : (ws : List ℕ) → 8 * length ws ≡ 0 + length (words_bytes ws)
+after_words ws = omega (arith, length_words_bytes ws)
 
 pub ruleset put_laws = (words_put, after_words)

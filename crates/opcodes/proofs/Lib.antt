@@ -1,3 +1,4 @@
 -- Laws of this crate. Assumes nothing.
 pub mod BitLaws
 pub mod OpcodeLaws
+pub mod NameLaws

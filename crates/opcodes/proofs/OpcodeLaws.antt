@@ -1,12 +1,13 @@
--- The table's rule, by one test over all of its numbers, and the arms of a read's result. Assumes nothing.
-use Rattle.std.proofs.Common.{◌≡◌, ℕ, zero, suc, ◌+◌, ◌-◌, ◌*◌, ◌%◌, ◌<◌, ◌≤◌, Bool, true, false, not, ◌&&◌, eqb, leb, sym, refl, ◌∙◌, subst, arith, ne_eqb, eqb-true}
+-- The table's rule, by one test over all of its numbers. Assumes nothing.
+use Rattle.std.proofs.Common.{◌≡◌, ℕ, zero, suc, ◌<◌, ◌≤◌, Bool, true, false, not, ◌&&◌, eqb, sym, refl, ◌∙◌, subst, arith, eqb-true}
 use borrow.Author.Tests.{eqb-false}
 use Rattle.model.specs.Words.{field, on}
-use Rattle.model.specs.Opcodes.{Opcode, sum, difference, bitwise, count_of_ones, decoded}
+use Rattle.model.specs.Opcodes.{Opcode, decoded}
 use Rattle.model.proofs.BranchLaws.{and_left, and_right}
 use Rattle.model.proofs.Computing.{by_computation}
 use Rattle.model.proofs.TableLaws.{Outside, outside_not_decoded}
-use Rattle.opcodes.specs.Table.{operation_result, taken, of_entry, reads_word, writes_word, moves_control, Told}
+use Rattle.opcodes.specs.declared.table.Entry.{Entry}
+use Rattle.opcodes.specs.Table.{of_entry, reads_word, writes_word, moves_control, Told}
 
 -- THE RULE OF A COLUMN over all numbers below n
 same : (a b : Bool) → Bool
@@ -104,56 +105,10 @@ outside k h =
     }
 
 -- from 64 on there is none
-pub no_entry_law : (k : ℕ) → 64 ≤ k → Told k (record { operand = false; privileged = false; reads = false; writes = false; moves = false })
+pub no_entry_law : (k : ℕ) (e : Entry) → 64 ≤ k → e.operand ≡ false → e.privileged ≡ false → e.reads ≡ false → e.writes ≡ false → e.moves ≡ false → Told k e
 unfolding of_entry by_computation
-no_entry_law k h =
-    let e = outside_not_decoded k (outside k h) in
-    record { operand_same = rw e; privilege_same = rw e; reads_same = rw e; writes_same = rw e; moves_same = rw e }
+no_entry_law k e h a b c d f =
+    let n = outside_not_decoded k (outside k h) in
+    record { operand_same = rw n a; privilege_same = rw n b; reads_same = rw n c; writes_same = rw n d; moves_same = rw n f }
 
 pub ruleset entries = (entry_law, no_entry_law)
-
--- A READ'S RESULT, for each arm
-module _ (o a w r : ℕ) where
-  pub load_result : o ≡ 1 → w ≡ operation_result o a w
-  unfolding operation_result
-  load_result h = rw h
-
-  pub add_result : o ≡ 3 → r ≡ sum a w → r ≡ operation_result o a w
-  unfolding operation_result
-  add_result h e = e ∙ rw h
-
-  pub subtract_result : o ≡ 4 → r ≡ difference a w → r ≡ operation_result o a w
-  unfolding operation_result
-  subtract_result h e = e ∙ rw h
-
-  pub and_result : o ≡ 5 → r ≡ bitwise 64 (λ x y. x * y) a w → r ≡ operation_result o a w
-  unfolding operation_result
-  and_result h e = e ∙ rw h
-
-  pub or_result : o ≡ 6 → r ≡ bitwise 64 (λ x y. x + y - x * y) a w → r ≡ operation_result o a w
-  unfolding operation_result
-  or_result h e = e ∙ rw h
-
-  pub exclusive_or_result : o ≡ 7 → r ≡ bitwise 64 (λ x y. (x + y) % 2) a w → r ≡ operation_result o a w
-  unfolding operation_result
-  exclusive_or_result h e = e ∙ rw h
-
-  pub count_result : (o ≡ 1 → ⊥) → (o ≡ 3 → ⊥) → (o ≡ 4 → ⊥) → (o ≡ 5 → ⊥) → (o ≡ 6 → ⊥) → (o ≡ 7 → ⊥) → r ≡ count_of_ones 64 w → r ≡ operation_result o a w
-  unfolding operation_result
-  count_result h i j k l m e = e ∙ simp (ne_eqb o 1 h, ne_eqb o 3 i, ne_eqb o 4 j, ne_eqb o 5 k, ne_eqb o 6 l, ne_eqb o 7 m)
-
--- A TRANSFER IS TAKEN, for each arm
-module _ (o a : ℕ) where
-  pub tra_taken : o ≡ 24 → true ≡ taken o a
-  unfolding taken
-  tra_taken h = rw h
-
-  pub tze_taken : o ≡ 25 → eqb a 0 ≡ taken o a
-  unfolding taken
-  tze_taken h = rw h
-
-  pub tmi_taken : (o ≡ 24 → ⊥) → (o ≡ 25 → ⊥) → leb 9223372036854775808 a ≡ taken o a
-  unfolding taken
-  tmi_taken h i = simp (ne_eqb o 24 h, ne_eqb o 25 i)
-
-pub ruleset results = (load_result, add_result, subtract_result, and_result, or_result, exclusive_or_result, count_result, tra_taken, tze_taken, tmi_taken)

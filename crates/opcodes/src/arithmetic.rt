@@ -1,4 +1,6 @@
 // A's operations, modulo 2^64 and bit by bit; what a read makes of A, and when a transfer is taken.
+#![tactic(auto, using(crate::proofs::BitLaws::bits), unfolding(model::specs::Opcodes::sum, model::specs::Opcodes::difference, crate::specs::Table::operation_result, crate::specs::Table::taken))]
+
 ghost use Rattle.std.specs.Prelude.{◌≡◌, ◌+◌, ◌-◌, ◌*◌, ◌%◌};
 ghost use Rattle.model.specs.Opcodes.{sum, difference, bitwise, count_of_ones};
 ghost use Rattle.opcodes.specs.Table.{operation_result, taken};
@@ -6,13 +8,13 @@ ghost use Rattle.opcodes.specs.Table.{operation_result, taken};
 pub fn add(a: u64, w: u64) -> u64
     ensures { result ≡ sum a w }
 {
-    std::num::wrapping_add_u64(a, w)
+    a.wrapping_add(w)
 }
 
 pub fn subtract(a: u64, w: u64) -> u64
     ensures { result ≡ difference a w }
 {
-    std::num::wrapping_sub_u64(a, w)
+    a.wrapping_sub(w)
 }
 
 pub fn and(a: u64, w: u64) -> u64
@@ -37,7 +39,7 @@ pub fn exclusive_or(a: u64, w: u64) -> u64
 pub fn count_ones(w: u64) -> u64
     ensures { result ≡ count_of_ones 64 w }
 {
-    u64::count_ones(w) as u64
+    u64::from(w.count_ones())
 }
 
 // A after an opcode that reads.

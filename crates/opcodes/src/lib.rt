@@ -2,4 +2,5 @@
 #![tactic(auto)]
 
 pub mod arithmetic;
+pub mod opcode;
 pub mod table;

@@ -5,16 +5,18 @@ ghost use Rattle.opcodes.specs.Table.{Told};
 
 // A column for each thing that an entry says, with bit k for opcode k. No opcode has a number of 64 or more.
 // As bits of whole numbers the table needs no memory: a look-up is a constant and a shift.
-const OPCODES: [u64; 5] = [
-    5510560678910,
-    7696581394432,
-    5497558139898,
-    131588,
-    4411048853504,
-];
+const OPERANDS: u64 = 5510560678910;
+
+const PRIVILEGES: u64 = 7696581394432;
+
+const READERS: u64 = 5497558139898;
+
+const WRITERS: u64 = 131588;
+
+const MOVERS: u64 = 4411048853504;
 
 // What the table says of an opcode: an operand, ring 0 alone, and how it uses the operand's segment.
-#[derive(Clone, Copy)]
+#[derive(Clone, Copy, Default)]
 pub struct Entry {
     pub operand: bool,
     pub privileged: bool,
@@ -23,6 +25,9 @@ pub struct Entry {
     pub moves: bool,
 }
 
+// Is an opcode's bit on in a column?
+// Stays: the place is known only at run time, so that it is no bit of `words`, which this crate doesn't stand on.
+#[tactic(auto, unfolding(model::specs::Words::on, model::specs::Words::field))]
 fn is_in(column: u64, opcode: u64) -> bool
     requires { opcode < 64 }
     ensures { result ≡ on opcode column }
@@ -35,20 +40,13 @@ pub fn entry_of(opcode: u8) -> Entry
 {
     let k = opcode as u64;
     if 64 <= k {
-        return Entry {
-            operand: false,
-            privileged: false,
-            reads: false,
-            writes: false,
-            moves: false,
-        };
+        return Entry::default();
     }
-    let table = OPCODES;
     Entry {
-        operand: is_in(table[0], k),
-        privileged: is_in(table[1], k),
-        reads: is_in(table[2], k),
-        writes: is_in(table[3], k),
-        moves: is_in(table[4], k),
+        operand: is_in(OPERANDS, k),
+        privileged: is_in(PRIVILEGES, k),
+        reads: is_in(READERS, k),
+        writes: is_in(WRITERS, k),
+        moves: is_in(MOVERS, k),
     }
 }

@@ -1,17 +1,18 @@
 // The opcodes that read and write their operand.
-ghost use Rattle.std.specs.Prelude.{◌≡◌, ◌<◌, length};
+ghost use Rattle.std.specs.Prelude.{◌≡◌, ◌<◌, true, false, length, MatchResult};
 ghost use Rattle.model.specs.Opcodes.{sum};
 ghost use Rattle.model.specs.Registers as Registers;
 ghost use Rattle.model.specs.Questions as Questions;
 ghost use Rattle.model.specs.Step as Step;
 ghost use Rattle.words.specs.View.{as_pointer};
 ghost use Rattle.opcodes.specs.Table.{operation_result};
+ghost use Rattle.questions.specs.Numbers.{fault_number};
 ghost use Rattle.segments.specs.Translation.{as_dbr};
-ghost use Rattle.state.specs.View.{Ready, DoesWithAnyPrs, DoesAnywhere, DoesAfterRead, DoesAfterWrite};
-ghost use Rattle.operations.specs.Rest.{sets_a, sets_dbr, stores_sum};
+ghost use Rattle.state.specs.View.{Ready, DoesWithAnyPrs, DoesAnywhere};
+ghost use Rattle.operations.specs.Rest.{sets_dbr};
 
 use questions::Use;
-use segments::access::Accessed;
+use questions::fault::Fault;
 use segments::translate::Dbr;
 use state::{After, Core};
 use words::descriptor::Descriptor;
@@ -22,32 +23,13 @@ pub fn load(core: Core, code: Descriptor, memory: &[u64], opcode: u8, t: Pointer
     requires { Ready core memory.now }
     ensures { DoesWithAnyPrs core code memory.now (λ r. Step.load (operation_result opcode) r (as_pointer t)) result memory.now }
 {
-    let dbr = core.dbr;
-    loaded(
-        core,
-        code,
-        opcode,
-        t,
-        segments::access::read(Use::Read, dbr, memory, t),
-    )
-}
-
-// What they do with the read's answer, wherever the descriptor was found.
-fn loaded(core: Core, code: Descriptor, opcode: u8, t: Pointer, x: Accessed) -> After
-    ensures { DoesAfterRead core code (as_pointer t) x (λ r _ w. sets_a opcode w r) result }
-{
-    match x {
-        Accessed::Refused(n) => state::faulted(core, code, n, t),
-        Accessed::Word(_d, v) => with_result(core, code, opcode, v),
+    match segments::access::read(Use::Read, core.dbr, memory, t) {
+        Err(fault) => state::faulted(core, code, fault, t),
+        Ok(read) => {
+            let a = opcodes::arithmetic::result_of(opcode, core.a, read.word);
+            state::completed(state::with_a(core, a), code)
+        }
     }
-}
-
-// A becomes the opcode's result of A and the word.
-fn with_result(core: Core, code: Descriptor, opcode: u8, w: u64) -> After
-    ensures { DoesAnywhere core code (sets_a opcode w) result }
-{
-    let a = opcodes::arithmetic::result_of(opcode, core.a, w);
-    state::completed(state::with_a(core, a), code)
 }
 
 // STA and SPP.
@@ -55,21 +37,9 @@ pub fn store(core: Core, code: Descriptor, memory: &mut [u64], t: Pointer, value
     requires { Ready core memory.old }
     ensures { DoesWithAnyPrs core code memory.old (λ r. Step.store value r (as_pointer t)) result memory.new }
 {
-    let dbr = core.dbr;
-    stored(
-        core,
-        code,
-        t,
-        segments::access::write(dbr, memory, t, value),
-    )
-}
-
-// What they do with the write's answer.
-fn stored(core: Core, code: Descriptor, t: Pointer, n: u8) -> After
-    ensures { DoesAfterWrite core code t n result }
-{
-    if n != 0 {
-        return state::faulted(core, code, n, t);
+    let written = segments::access::write(core.dbr, memory, t, value);
+    if let Err(fault) = written {
+        return state::faulted(core, code, fault, t);
     }
     state::completed(core, code)
 }
@@ -79,24 +49,19 @@ pub fn update(core: Core, code: Descriptor, memory: &mut [u64], t: Pointer) -> A
     requires { Ready core memory.old }
     ensures { DoesWithAnyPrs core code memory.old (λ r. Step.update (λ w. sum w 1) r (as_pointer t)) result memory.new }
 {
-    let dbr = core.dbr;
-    let x = segments::access::read(Use::Read, dbr, memory, t);
-    updated(core, code, memory, t, x)
-}
-
-// What it does with the read's answer.
-fn updated(core: Core, code: Descriptor, memory: &mut [u64], t: Pointer, x: Accessed) -> After
-    requires { Ready core memory.old }
-    ensures { DoesWithAnyPrs core code memory.old (stores_sum x (as_pointer t)) result memory.new }
-{
-    match x {
-        Accessed::Refused(n) => state::faulted(core, code, n, t),
-        Accessed::Word(_d, v) => store(core, code, memory, t, opcodes::arithmetic::add(v, 1)),
+    let operand = segments::access::read(Use::Read, core.dbr, memory, t);
+    match operand {
+        Err(fault) => state::faulted(core, code, fault, t),
+        Ok(read) => {
+            let value = opcodes::arithmetic::add(read.word, 1);
+            store(core, code, memory, t, value)
+        }
     }
 }
 
 // The DBR in LDBR's word.
-pub fn dbr_in(w: u64) -> Dbr
+#[tactic(auto, unfolding(model::specs::Registers::dbr_in, model::specs::Words::field))]
+fn dbr_in(w: u64) -> Dbr
     ensures { (as_dbr result ≡ Registers.dbr_in w) × (result.address < 16777216) × (result.length < 8192) }
 {
     Dbr {
@@ -105,12 +70,23 @@ pub fn dbr_in(w: u64) -> Dbr
     }
 }
 
-// 34: within 4,096 words and within memory?
-pub fn is_dbr(dbr: Dbr, words: usize) -> bool
+// 34: is it within 4,096 words and within memory?
+#[tactic(auto, unfolding(model::specs::Questions::dbr_fits))]
+fn is_dbr(dbr: Dbr, words: usize) -> bool
     requires { (dbr.address < 16777216) × (dbr.length < 8192) }
     ensures { result ≡ Questions.dbr_fits words (as_dbr dbr) }
 {
     (dbr.length <= 4096) & (dbr.address as usize + dbr.length as usize <= words)
+}
+
+// The DBR in LDBR's word or a frame's, where 34 has a yes in a memory of so many words.
+pub fn dbr_answer(w: u64, words: usize) -> Result<Dbr, Fault>
+    ensures same { MatchResult result (λ dbr. as_dbr dbr ≡ Registers.dbr_in w) (λ e. fault_number e ≡ 34) }
+    ensures asked { MatchResult result (λ _. Questions.dbr_fits words (Registers.dbr_in w) ≡ true) (λ _. Questions.dbr_fits words (Registers.dbr_in w) ≡ false) }
+{
+    let dbr = dbr_in(w);
+    questions::answer(is_dbr(dbr, words), Fault::BaseOutsideMemory)?;
+    Ok(dbr)
 }
 
 // LDBR: 34 after 22.
@@ -118,23 +94,9 @@ pub fn load_dbr(core: Core, code: Descriptor, memory: &[u64], t: Pointer) -> Aft
     requires { Ready core memory.now }
     ensures { DoesWithAnyPrs core code memory.now (λ r. Step.load_dbr (length memory.now) r (as_pointer t)) result memory.now }
 {
-    let dbr = core.dbr;
-    dbr_loaded(
-        core,
-        code,
-        memory.len(),
-        t,
-        segments::access::read(Use::Read, dbr, memory, t),
-    )
-}
-
-// What it does with the read's answer, in a memory of so many words.
-fn dbr_loaded(core: Core, code: Descriptor, words: usize, t: Pointer, x: Accessed) -> After
-    ensures { DoesAfterRead core code (as_pointer t) x (λ r _ w. sets_dbr words w (as_pointer t) r) result }
-{
-    match x {
-        Accessed::Refused(n) => state::faulted(core, code, n, t),
-        Accessed::Word(_d, v) => take_dbr(core, code, words, t, v),
+    match segments::access::read(Use::Read, core.dbr, memory, t) {
+        Err(fault) => state::faulted(core, code, fault, t),
+        Ok(read) => take_dbr(core, code, memory.len(), t, read.word),
     }
 }
 
@@ -142,9 +104,8 @@ fn dbr_loaded(core: Core, code: Descriptor, words: usize, t: Pointer, x: Accesse
 fn take_dbr(core: Core, code: Descriptor, words: usize, t: Pointer, w: u64) -> After
     ensures { DoesAnywhere core code (sets_dbr words w (as_pointer t)) result }
 {
-    let next = dbr_in(w);
-    if !is_dbr(next, words) {
-        return state::faulted(core, code, 34, t);
+    match dbr_answer(w, words) {
+        Err(fault) => state::faulted(core, code, fault, t),
+        Ok(dbr) => state::completed(state::with_dbr(core, dbr), code),
     }
-    state::completed(state::with_dbr(core, next), code)
 }

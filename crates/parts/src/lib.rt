@@ -17,11 +17,12 @@ pub fn put_number(text: &mut [u8], at: usize, v: u32, after: u8) -> usize
 }
 
 // A number of one digit, and the byte that ends it.
+// Stays: of the twins for one digit, five, ten and twenty each divides no more than it must; a listing's speed is in docs/PERFORMANCE.md.
 pub fn put_digit(text: &mut [u8], at: usize, v: u64, after: u8) -> usize
     requires { (at + 2 ≤ length text.old) × (v ≤ 9) }
     ensures { Put 2 at (decimal v ++ after ∷ []) text.old text.new result }
 {
-    text[at] = (48 + v) as u8;
+    text[at] = b'0' + v as u8;
     text[at + 1] = after;
     at + 2
 }
@@ -35,7 +36,7 @@ pub fn put_short(text: &mut [u8], at: usize, v: u64, after: u8) -> usize
         return put_digit(text, at, v, after);
     }
     if v < 100 {
-        let end = put_digit(text, at, v / 10, (48 + v % 10) as u8);
+        let end = put_digit(text, at, v / 10, b'0' + (v % 10) as u8);
         text[end] = after;
         return end + 1;
     }
@@ -47,9 +48,9 @@ pub fn put_pointer(text: &mut [u8], at: usize, ring: u64, segment: u64, word: u6
     requires { (at + 19 ≤ length text.old) × (ring ≤ 7) × (segment ≤ 4095) × (word < 65536) }
     ensures { Put 14 at (spaced_pointer ring segment word) text.old text.new result }
 {
-    let at_segment = put_digit(text, at, ring, 32);
-    let at_word = put_short(text, at_segment, segment, 32);
-    put_short(text, at_word, word, 32)
+    let at_segment = put_digit(text, at, ring, b' ');
+    let at_word = put_short(text, at_segment, segment, b' ');
+    put_short(text, at_word, word, b' ')
 }
 
 // The total of a run's pointer words, with which its last line ends.
@@ -58,21 +59,19 @@ pub fn put_total(text: &mut [u8], at: usize, total: u64) -> usize
     ensures { Put 21 at (decimal total ++ 10 ∷ []) text.old text.new result }
 {
     let end = text::put_decimal_64(text, at, total);
-    text[end] = 10;
+    text[end] = b'\n';
     end + 1
 }
 
 // Bytes as they are.
+#[tactic(auto, unfolding(text::specs::Text::placed))]
 pub fn put_bytes(text: &mut [u8], at: usize, bytes: &[u8]) -> usize
     requires { at + length bytes.now ≤ length text.old }
     ensures { (text.new ≡ placed at bytes.now text.old) × (result ≡ at + length bytes.now) }
 {
-    let mut i = 0;
-    while i < bytes.len() {
-        text[at + i] = bytes[i];
-        i += 1;
-    }
-    at + i
+    let end = at + bytes.len();
+    text[at..end].copy_from_slice(bytes);
+    end
 }
 
 // A name with a space after it, a number, and the byte that ends it.

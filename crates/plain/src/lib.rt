@@ -48,9 +48,8 @@ fn run_numbers(
             word: WordNumber(word),
         },
     };
-    let n = host::start::start_answer(core, prs, memory);
-    if n != 0 {
-        return answer_of(Reply::Refused(n), core, 0);
+    if let Err(error) = host::start::start_answer(core, prs, memory) {
+        return answer_of(Reply::Refused(error.number()), core, 0);
     }
     let y = run::run(core, prs, memory, budget, trace);
     let reply = y.reply;

@@ -17,18 +17,19 @@ use Rattle.model.proofs.Computing.{by_computation}
 use Rattle.model.proofs.QuestionLaws.{ask_yes}
 use Rattle.model.proofs.TableLaws.{Each, IfThere, decoded_has}
 use Rattle.words.specs.View.{as_pointer, PointerWithin}
-use Rattle.words.specs.declared.descriptor.Descriptor.{Descriptor}
 use Rattle.words.specs.declared.pointer.Pointer as Code
 use Rattle.opcodes.specs.Table.{of_entry}
 use Rattle.segments.specs.Translation.{descriptor_word, word_through, Reads, accessed, CodeRight}
-use Rattle.segments.specs.declared.access.Accessed.{Accessed}
-use Rattle.segments.specs.declared.access.Accessed.TheVariants.{Refused, Word}
+use Rattle.std.proofs.Common.{Result, Ok, Err}
+use Rattle.questions.specs.declared.fault.Fault.{Fault}
+use Rattle.questions.specs.Numbers.{fault_number}
+use Rattle.segments.specs.declared.access.ReadWord.{ReadWord}
 use Rattle.segments.proofs.TranslateLaws.{right_fits, law_passes}
 use Rattle.segments.proofs.UseLaws.{read_refused, read_passed, read_refused_counts, read_passed_counts}
 use Rattle.control.proofs.MoveLaws.{executable_right}
 use Rattle.addressing.specs.Address.{read_by, as_formed, Addressed}
 use Rattle.addressing.specs.declared.Address.{Address}
-use Rattle.addressing.specs.declared.Address.TheVariants as Address
+use Rattle.addressing.specs.declared.AddressFault.{AddressFault}
 use Rattle.addressing.proofs.ChainLaws.{landed, chain_formed, chain_counted}
 use Rattle.dispatch.specs.Plain.{plainly, obey_plainly, plain_program, plain_step}
 use Rattle.dispatch.specs.Dispatch.{dispatched, dispatched_in}
@@ -134,7 +135,7 @@ privileged_counts m n r i none e = impossible (sym e)
 privileged_counts m n r i (some o) e = rw (not_or o.privileged (eqb r.ipr.ring 0) e) refl
 
 -- through pointer words
-module _ (m : Machine) (n : ℕ) (i : Instruction) (t : Pointer) (f : t ≡ first_address i m.registers) (x : Address) (s : Addressed m.registers.dbr m.memory t x) where
+module _ (m : Machine) (n : ℕ) (i : Instruction) (t : Pointer) (f : t ≡ first_address i m.registers) (x : Result Address AddressFault) (s : Addressed m.registers.dbr m.memory t x) where
   chained : (o : Opcode) → o.operand && i.i ≡ true → o.privileged && not (eqb m.registers.ipr.ring 0) ≡ false →
       obey_plainly n m.registers i (some o) ≡ chain 64 true t (plainly n o.access i m.registers)
   unfolding obey_plainly with_operand
@@ -185,31 +186,31 @@ module _ (m : Machine) (w v : ℕ) (q : v ≡ (instruction_in w).opcode) (b j : 
         let d = decoded (instruction_in w).opcode in
         (privileged_refused m _ m.registers (instruction_in w) d (rw (← h) g), privileged_counts m _ m.registers (instruction_in w) d (rw (← h) g))
 
-    pub operand_chain_law : (t : Pointer) (x : Address) → p && not (eqb m.registers.ipr.ring 0) ≡ false → t ≡ first_address (instruction_in w) m.registers →
+    pub operand_chain_law : (t : Pointer) (x : Result Address AddressFault) → p && not (eqb m.registers.ipr.ring 0) ≡ false → t ≡ first_address (instruction_in w) m.registers →
         Addressed m.registers.dbr m.memory t x → OperandFormed m w x
     unfolding landed of_entry read_by
     operand_chain_law t x g k s = through (decoded (instruction_in w).opcode) refl (rw (← e, ← f) (not-false (b && j) y)) (rw (← h) g) x s k
       where
-        lands : (o : Opcode) (x : Address) → o.privileged && not (eqb m.registers.ipr.ring 0) ≡ false → decoded (instruction_in w).opcode ≡ some o →
+        lands : (o : Opcode) (x : Result Address AddressFault) → o.privileged && not (eqb m.registers.ipr.ring 0) ≡ false → decoded (instruction_in w).opcode ≡ some o →
             Addressed m.registers.dbr m.memory t x → t ≡ first_address (instruction_in w) m.registers → o.operand && (instruction_in w).i ≡ true → OperandFormed m w x
-        lands o (Address.Bad n u c) g d s k a = (
+        lands o (Err e) g d s k a = (
           ap (λ z. execute m (obey_plainly (length m.memory) m.registers (instruction_in w) z)) d
-              ∙ through_words m (length m.memory) (instruction_in w) t k (Address.Bad n u c) s o a g,
+              ∙ through_words m (length m.memory) (instruction_in w) t k (Err e) s o a g,
           ap (λ z. ticks m (obey_plainly (length m.memory) m.registers (instruction_in w) z)) d
-              ∙ words_counted m (length m.memory) (instruction_in w) t k (Address.Bad n u c) s o a g,
+              ∙ words_counted m (length m.memory) (instruction_in w) t k (Err e) s o a g,
         )
-        lands o (Address.Good u c) g d s k a = (
+        lands o (Ok z) g d s k a = (
           ap (λ z. execute m (obey_plainly (length m.memory) m.registers (instruction_in w) z)) d
-              ∙ through_words m (length m.memory) (instruction_in w) t k (Address.Good u c) s o a g
-              ∙ ap (execute m) (performed m (length m.memory) (instruction_in w) t k (Address.Good u c) s o (as_pointer u) g)
-              ∙ ap (λ z. execute m (dispatched (length m.memory) m.registers (instruction_in w) z (as_pointer u))) (sym d),
+              ∙ through_words m (length m.memory) (instruction_in w) t k (Ok z) s o a g
+              ∙ ap (execute m) (performed m (length m.memory) (instruction_in w) t k (Ok z) s o (as_pointer z.pointer) g)
+              ∙ ap (λ y. execute m (dispatched (length m.memory) m.registers (instruction_in w) y (as_pointer z.pointer))) (sym d),
           ap (λ z. ticks m (obey_plainly (length m.memory) m.registers (instruction_in w) z)) d
-              ∙ words_counted m (length m.memory) (instruction_in w) t k (Address.Good u c) s o a g,
+              ∙ words_counted m (length m.memory) (instruction_in w) t k (Ok z) s o a g,
           s.within,
         )
 
         through : (d : Option Opcode) → decoded (instruction_in w).opcode ≡ d → of_entry (λ o. o.operand) d && (instruction_in w).i ≡ true →
-            of_entry (λ o. o.privileged) d && not (eqb m.registers.ipr.ring 0) ≡ false → (x : Address) → Addressed m.registers.dbr m.memory t x →
+            of_entry (λ o. o.privileged) d && not (eqb m.registers.ipr.ring 0) ≡ false → (x : Result Address AddressFault) → Addressed m.registers.dbr m.memory t x →
             t ≡ first_address (instruction_in w) m.registers → OperandFormed m w x
         through none q a c x s k = impossible (sym a)
         through (some o) q a c x s k = lands o x c q s k a
@@ -217,30 +218,30 @@ module _ (m : Machine) (w v : ℕ) (q : v ≡ (instruction_in w).opcode) (b j : 
 pub ruleset operands = (operand_direct_law, operand_33_law, operand_chain_law)
 
 -- THE FETCH, by every question
-module _ (m : Machine) (y : Accessed) (s : accessed m.registers.dbr m.memory m.registers.ipr (fetch_questions m.registers.ipr) y) where
-  pub fetch_faults : (n : ℕ) → y ≡ Refused n → (plain_step m ≡ faults n m.registers.ipr) × (pointer_words m ≡ 0)
+module _ (m : Machine) (y : Result ReadWord Fault) (s : accessed m.registers.dbr m.memory m.registers.ipr (fetch_questions m.registers.ipr) y) where
+  pub fetch_faults : (e : Fault) → y ≡ Err e → (plain_step m ≡ faults (fault_number e) m.registers.ipr) × (pointer_words m ≡ 0)
   unfolding plain_step plain_program
-  fetch_faults n e = (read_refused m m.registers.ipr _ y s _ n e, plain_counts m ∙ read_refused_counts m m.registers.ipr _ y s _ n e)
+  fetch_faults e is = (read_refused m m.registers.ipr _ y s _ e is, plain_counts m ∙ read_refused_counts m m.registers.ipr _ y s _ e is)
 
-  module _ (d : Descriptor) (w : ℕ) (e : y ≡ Word d w) where
-    pub fetch_obeys : plain_step m ≡ execute m (obeyed_in m w)
+  module _ (w : ReadWord) (e : y ≡ Ok w) where
+    pub fetch_obeys : plain_step m ≡ execute m (obeyed_in m w.word)
     unfolding plain_step plain_program
-    fetch_obeys = read_passed m m.registers.ipr _ y s _ d w e
+    fetch_obeys = read_passed m m.registers.ipr _ y s _ w e
 
-    pub fetch_counts : pointer_words m ≡ ticks m (obeyed_in m w)
+    pub fetch_counts : pointer_words m ≡ ticks m (obeyed_in m w.word)
     unfolding plain_program
-    fetch_counts = plain_counts m ∙ read_passed_counts m m.registers.ipr _ y s _ d w e
+    fetch_counts = plain_counts m ∙ read_passed_counts m m.registers.ipr _ y s _ w e
 
-    code_fetched : CodeRight d.0 m.registers.ipr.ring (length m.memory)
+    code_fetched : CodeRight w.descriptor.0 m.registers.ipr.ring (length m.memory)
     unfolding fetch_questions
-    code_fetched = let h = rw e at s in executable_right _ d.0 h.looks.found.right m.registers.ipr _ refl (ask_yes _ _ _ h.looks.asked).0
+    code_fetched = let h = rw e at s in executable_right _ w.descriptor.0 h.looks.found.right m.registers.ipr _ refl (ask_yes _ _ _ h.looks.asked).0
 
-    module _ (x : Address) (g : OperandFormed m w x) where
-      pub form_bad : (n : ℕ) (t : Code.Pointer) (c : ℕ) → x ≡ Address.Bad n t c → (plain_step m ≡ faults n (as_pointer t)) × (pointer_words m ≡ c)
-      form_bad n t c f = let h = rw f at g in (fetch_obeys ∙ h.0, fetch_counts ∙ h.1)
+    module _ (x : Result Address AddressFault) (g : OperandFormed m w.word x) where
+      pub form_bad : (a : AddressFault) → x ≡ Err a → (plain_step m ≡ faults (fault_number a.fault) (as_pointer a.pointer)) × (pointer_words m ≡ a.read)
+      form_bad a f = let h = rw f at g in (fetch_obeys ∙ h.0, fetch_counts ∙ h.1)
 
-      pub form_ready : (t : Code.Pointer) (c : ℕ) → x ≡ Address.Good t c → ReadyToPerform m w t c × CodeRight d.0 m.registers.ipr.ring (length m.memory)
-      form_ready t c f = let h = rw f at g in (record { step_same = fetch_obeys ∙ h.0; counted = fetch_counts ∙ h.1; within = h.2 }, code_fetched)
+      pub form_ready : (a : Address) → x ≡ Ok a → ReadyToPerform m w.word a.pointer a.read × CodeRight w.descriptor.0 m.registers.ipr.ring (length m.memory)
+      form_ready a f = let h = rw f at g in (record { step_same = fetch_obeys ∙ h.0; counted = fetch_counts ∙ h.1; within = h.2 }, code_fetched)
 
 -- THE FETCH, by the word that has passed
 module _ (m : Machine) (code w : ℕ) (right : CodeRight code m.registers.ipr.ring (length m.memory)) (h : m.registers.ipr.segment < m.registers.dbr.length)
@@ -252,7 +253,7 @@ module _ (m : Machine) (code w : ℕ) (right : CodeRight code m.registers.ipr.ri
       record {
         looks =
             record {
-              found = law_passes m.registers.dbr m.memory m.registers.ipr code 0 h (sym right.passes) (sym e) refl l f i;
+              found = law_passes m.registers.dbr m.memory m.registers.ipr code h (sym right.passes) (sym e) l f i;
               asked = rw (right.executable m.registers.ipr refl);
             };
         word_same = g;
@@ -262,8 +263,8 @@ module _ (m : Machine) (code w : ℕ) (right : CodeRight code m.registers.ipr.ri
       ReadyToPerform m w t 0
   quick_ready j t n k q z =
       record {
-        step_same = fetch_obeys m (Word (record { 0 = code }) w) quick_reads (record { 0 = code }) w refl ∙ direct_here.0;
-        counted = fetch_counts m (Word (record { 0 = code }) w) quick_reads (record { 0 = code }) w refl ∙ direct_here.1;
+        step_same = fetch_obeys m (Ok (record { descriptor = record { 0 = code }; word = w })) quick_reads (record { descriptor = record { 0 = code }; word = w }) refl ∙ direct_here.0;
+        counted = fetch_counts m (Ok (record { descriptor = record { 0 = code }; word = w })) quick_reads (record { descriptor = record { 0 = code }; word = w }) refl ∙ direct_here.1;
         within = z;
       }
     where

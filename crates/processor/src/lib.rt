@@ -7,29 +7,30 @@ ghost use Rattle.segments.specs.Translation.{CodeRight};
 ghost use Rattle.state.specs.View.{as_pointers, as_machine, Ready};
 ghost use Rattle.processor.specs.Step.{OperandFormed, formed, QuicklyFormed};
 
-use addressing::Address;
+use addressing::{Address, AddressFault};
 use questions::Use;
-use segments::access::Accessed;
+use questions::fault::Fault;
 use state::Core;
 use words::descriptor::Descriptor;
 use words::pointer::Pointer;
 
-// A fault with its pointer, or an instruction with TPR and its segment's descriptor; and how many pointer words were read.
+// An instruction word with TPR, ready to be performed.
 #[derive(Clone, Copy)]
-pub enum Formed {
-    Bad(u8, Pointer, u64),
-    Ready(u64, Pointer, Descriptor, u64),
+pub struct Instruction {
+    pub word: u64,
+    pub pointer: Pointer,
 }
 
-// An instruction with TPR, which took no pointer word; `No` says nothing of it.
+// An instruction formed by every question, its segment's descriptor, and how many pointer words were read.
 #[derive(Clone, Copy)]
-pub enum Prepared {
-    No,
-    Ready(u64, Pointer),
+pub struct Formed {
+    pub instruction: Instruction,
+    pub code: Descriptor,
+    pub read: u64,
 }
 
 // TPR of a fetched instruction. 32 and 33 are `perform`'s to ask, but 33 comes before the pointer words.
-fn operand(core: Core, prs: &[u16; 24], memory: &[u64], w: u64) -> Address
+fn operand(core: Core, prs: &[u16; 24], memory: &[u64], w: u64) -> Result<Address, AddressFault>
     requires { Ready core memory.now × (all pointer_in_range (as_pointers prs.now) ≡ true) }
     ensures { OperandFormed (as_machine core prs.now memory.now) w result }
 {
@@ -37,52 +38,67 @@ fn operand(core: Core, prs: &[u16; 24], memory: &[u64], w: u64) -> Address
     let first = addressing::first_address(core, prs, w);
     let entry = opcodes::table::entry_of(words::instruction::opcode(w));
     if !(entry.operand & words::instruction::is_indirect(w)) {
-        return Address::Good(first, 0);
+        return Ok(Address {
+            pointer: first,
+            read: 0,
+        });
     }
     if entry.privileged & (ipr.ring != 0) {
-        return Address::Bad(33, ipr, 0);
+        return Err(AddressFault {
+            fault: Fault::Privileged,
+            pointer: ipr,
+            read: 0,
+        });
     }
-    let dbr = core.dbr;
-    addressing::effective(dbr, memory, first)
+    addressing::effective(core.dbr, memory, first)
 }
 
 // The general way: every question up to the operand's own, in order.
-pub fn form(core: Core, prs: &[u16; 24], memory: &[u64]) -> Formed
+pub fn form(core: Core, prs: &[u16; 24], memory: &[u64]) -> Result<Formed, AddressFault>
     requires { Ready core memory.now × (all pointer_in_range (as_pointers prs.now) ≡ true) }
     ensures { formed (as_machine core prs.now memory.now) result }
 {
-    let dbr = core.dbr;
     let ipr = core.ipr;
-    match segments::access::read(Use::Fetch, dbr, memory, ipr) {
-        Accessed::Refused(n) => Formed::Bad(n, ipr, 0),
-        Accessed::Word(d, w) => match operand(core, prs, memory, w) {
-            Address::Bad(n, t, c) => Formed::Bad(n, t, c),
-            Address::Good(t, c) => Formed::Ready(w, t, d, c),
+    let fetched = segments::access::read(Use::Fetch, core.dbr, memory, ipr).map_err(
+        move |fault| AddressFault {
+            fault,
+            pointer: ipr,
+            read: 0,
         },
-    }
+    )?;
+    let address = operand(core, prs, memory, fetched.word)?;
+    Ok(Formed {
+        instruction: Instruction {
+            word: fetched.word,
+            pointer: address.pointer,
+        },
+        code: fetched.descriptor,
+        read: address.read,
+    })
 }
 
 // The quick way: the segment's descriptor is the word that has passed before, and I is off. 11 and 15 are asked; the word
-// itself answers 12 to 14 and 21.
-pub fn quick(code: Descriptor, core: Core, prs: &[u16; 24], memory: &[u64]) -> Prepared
+// itself answers 12 to 14 and 21. `None` says nothing of the instruction.
+pub fn quick(code: Descriptor, core: Core, prs: &[u16; 24], memory: &[u64]) -> Option<Instruction>
     requires { Ready core memory.now × (all pointer_in_range (as_pointers prs.now) ≡ true) × CodeRight code.0 core.ipr.ring (length memory.now) }
     ensures { QuicklyFormed (as_machine core prs.now memory.now) result }
 {
     let ipr = core.ipr;
     let segment = ipr.segment.0;
     if core.dbr.length <= segment {
-        return Prepared::No;
+        return None;
     }
     let at = core.dbr.address as usize + segment as usize;
     if memory[at] != code.0 {
-        return Prepared::No;
+        return None;
     }
     if words::descriptor::length_of(code) <= ipr.word.0 {
-        return Prepared::No;
+        return None;
     }
-    let w = segments::segment::read(memory, code, ipr.word);
-    if words::instruction::is_indirect(w) {
-        return Prepared::No;
+    let word = segments::segment::read(memory, code, ipr.word);
+    if words::instruction::is_indirect(word) {
+        return None;
     }
-    Prepared::Ready(w, addressing::first_address(core, prs, w))
+    let pointer = addressing::first_address(core, prs, word);
+    Some(Instruction { word, pointer })
 }

@@ -1,2 +1,3 @@
 -- What the values of this crate stand for. Assumes nothing: these are definitions.
 pub mod Use
+pub mod Numbers

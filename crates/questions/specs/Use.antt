@@ -2,7 +2,6 @@
 use Rattle.model.specs.Words as Words
 use Rattle.model.specs.Questions.{Question, fetch_questions, read_questions, write_questions, transfer_questions, return_questions, call_questions, part_questions}
 use Rattle.questions.specs.declared.Use.{Use}
-use Rattle.questions.specs.declared.Use.TheVariants as Use
 
 -- what a use by the instruction at ipr asks, once 11 to 15 have passed
 abbrev pub questions_of : Use → (ipr t : Words.Pointer) → Question

@@ -12,145 +12,108 @@ ghost use Rattle.loading.specs.View.{LoadingWithin};
 use fields::mark::{Mark, mark_of, size_of, start_size};
 use fields::number::number_4;
 use fields::registers::registers_at;
-use loading::{Loading, Outcome, Recorded};
+use loading::error::LoadError;
+use loading::word::load_word;
+use loading::{Loading, Outcome, Start};
 
 // ME: 42 for a second one, 43, and so many words of memory, which are zeros already.
-fn load_memory(loading: Loading, bytes: &[u8]) -> Recorded
+#[tactic(auto, using(crate::proofs::RecordLaws::memory_loaded))]
+fn load_memory(loading: &mut Loading, bytes: &[u8]) -> Result<Outcome, LoadError>
     requires { (Image.mark_of bytes.now ≡ some Image.ME) × (6 ≤ length bytes.now) }
-    ensures { RecordedByItself loading bytes.now result }
+    ensures { RecordedByItself loading.old bytes.now result loading.new }
 {
-    if loading.has_memory {
-        return Recorded {
-            loading,
-            outcome: Outcome::Refused(42),
-        };
+    if loading.words.is_some() {
+        return Err(LoadError::OutOfPlace);
     }
     let words = number_4(bytes, 2);
     if words > 8192 {
-        return Recorded {
-            loading,
-            outcome: Outcome::Refused(43),
-        };
+        return Err(LoadError::MemoryTooLarge);
     }
-    let registers = loading.registers;
-    Recorded {
-        loading: Loading {
-            is_stored: loading.is_stored,
-            has_memory: true,
-            words,
-            has_registers: loading.has_registers,
-            registers,
-        },
-        outcome: Outcome::Next(6),
-    }
+    loading.words = Some(words);
+    Ok(Outcome::Next(6))
 }
 
 // ST: 42 before ME and for a second one, and the registers, of as many bytes as the rules give it.
-fn load_start(loading: Loading, bytes: &[u8]) -> Recorded
-    requires { (Image.mark_of bytes.now ≡ some Image.ST) × (Image.start_size (rules_of loading.is_stored) ≤ length bytes.now) }
-    ensures { RecordedByItself loading bytes.now result }
+#[tactic(auto, using(crate::proofs::RecordLaws::start_loaded))]
+fn load_start(loading: &mut Loading, bytes: &[u8]) -> Result<Outcome, LoadError>
+    requires { (Image.mark_of bytes.now ≡ some Image.ST) × (Image.start_size (rules_of loading.old.rules) ≤ length bytes.now) }
+    ensures { RecordedByItself loading.old bytes.now result loading.new }
 {
-    if !loading.has_memory {
-        return Recorded {
-            loading,
-            outcome: Outcome::Refused(42),
-        };
+    if loading.words.is_none() | loading.registers.is_some() {
+        return Err(LoadError::OutOfPlace);
     }
-    if loading.has_registers {
-        return Recorded {
-            loading,
-            outcome: Outcome::Refused(42),
-        };
-    }
-    let size = start_size(loading.is_stored);
-    let registers = registers_at(&bytes[..size], loading.is_stored);
-    Recorded {
-        loading: Loading {
-            is_stored: loading.is_stored,
-            has_memory: loading.has_memory,
-            words: loading.words,
-            has_registers: true,
-            registers,
-        },
-        outcome: Outcome::Next(size),
-    }
+    let size = start_size(loading.rules);
+    let registers = registers_at(&bytes[..size], loading.rules);
+    loading.registers = Some(registers);
+    Ok(Outcome::Next(size))
 }
 
 // RN: 42 before ME or ST and where a byte follows, and the budget once the bytes are ended.
-fn load_run(loading: Loading, bytes: &[u8], ended: bool) -> Recorded
+#[tactic(auto, using(crate::proofs::RecordLaws::run_loaded))]
+fn load_run(loading: &Loading, bytes: &[u8], ended: bool) -> Result<Outcome, LoadError>
     requires { (Image.mark_of bytes.now ≡ some Image.RN) × (6 ≤ length bytes.now) }
-    ensures { RecordedWithAnyMemory loading bytes.now ended result }
+    ensures { RecordedWithAnyMemory loading.now bytes.now ended result loading.now }
 {
-    if !loading.has_memory {
-        return Recorded {
-            loading,
-            outcome: Outcome::Refused(42),
-        };
-    }
-    if !loading.has_registers {
-        return Recorded {
-            loading,
-            outcome: Outcome::Refused(42),
-        };
-    }
+    let Some(words) = loading.words else {
+        return Err(LoadError::OutOfPlace);
+    };
+    let Some(registers) = loading.registers else {
+        return Err(LoadError::OutOfPlace);
+    };
     if bytes.len() > 6 {
-        return Recorded {
-            loading,
-            outcome: Outcome::Refused(42),
-        };
+        return Err(LoadError::OutOfPlace);
     }
-    if ended {
-        return Recorded {
-            loading,
-            outcome: Outcome::Ready(number_4(bytes, 2)),
-        };
+    if !ended {
+        return Ok(Outcome::Waits);
     }
-    Recorded {
-        loading,
-        outcome: Outcome::Waits,
-    }
+    let budget = number_4(bytes, 2);
+    Ok(Outcome::Ready(Start {
+        words,
+        registers,
+        budget,
+    }))
 }
 
 // No whole record: 42 for no bytes at all and 41 for some, once they are ended.
-fn load_part(loading: Loading, mark: Mark, bytes: &[u8], ended: bool) -> Recorded
-    requires { (as_mark mark ≡ Image.mark_of bytes.now) × (length bytes.now < size_of (rules_of loading.is_stored) mark) }
-    ensures { RecordedWithAnyMemory loading bytes.now ended result }
+#[tactic(auto, using(crate::proofs::PartLaws::parts, crate::proofs::RecordLaws::waits))]
+fn load_part(
+    loading: &Loading,
+    mark: Option<Mark>,
+    bytes: &[u8],
+    ended: bool,
+) -> Result<Outcome, LoadError>
+    requires { (as_mark mark ≡ Image.mark_of bytes.now) × (length bytes.now < size_of (rules_of loading.now.rules) mark) }
+    ensures { RecordedWithAnyMemory loading.now bytes.now ended result loading.now }
 {
-    if ended {
-        if bytes.len() == 0 {
-            return Recorded {
-                loading,
-                outcome: Outcome::Refused(42),
-            };
-        }
-        return Recorded {
-            loading,
-            outcome: Outcome::Refused(41),
-        };
+    if !ended {
+        return Ok(Outcome::Waits);
     }
-    Recorded {
-        loading,
-        outcome: Outcome::Waits,
+    if bytes.len() == 0 {
+        return Err(LoadError::OutOfPlace);
     }
+    Err(LoadError::CutShort)
 }
 
 // `ended`: no bytes come after these.
-pub fn load_record(loading: Loading, store: &mut [u64], bytes: &[u8], ended: bool) -> Recorded
-    requires { LoadingWithin loading store.old }
-    ensures { RecordedAs loading store.old bytes.now ended result store.new }
+#[tactic(auto, using(crate::proofs::PartLaws::whole_records))]
+pub fn load_record(
+    loading: &mut Loading,
+    store: &mut [u64],
+    bytes: &[u8],
+    ended: bool,
+) -> Result<Outcome, LoadError>
+    requires { LoadingWithin loading.old store.old }
+    ensures { RecordedAs loading.old store.old bytes.now ended result loading.new store.new }
 {
     let mark = mark_of(bytes);
-    if bytes.len() < size_of(mark, loading.is_stored) {
+    if bytes.len() < size_of(mark, loading.rules) {
         return load_part(loading, mark, bytes, ended);
     }
     match mark {
-        Mark::Memory => load_memory(loading, bytes),
-        Mark::Start => load_start(loading, bytes),
-        Mark::Word => loading::word::load_word(loading, store, bytes),
-        Mark::Run => load_run(loading, bytes, ended),
-        Mark::Unknown => Recorded {
-            loading,
-            outcome: Outcome::Refused(41),
-        },
+        Some(Mark::Memory) => load_memory(loading, bytes),
+        Some(Mark::Start) => load_start(loading, bytes),
+        Some(Mark::Word) => load_word(loading, store, bytes),
+        Some(Mark::Run) => load_run(loading, bytes, ended),
+        None => Err(LoadError::CutShort),
     }
 }

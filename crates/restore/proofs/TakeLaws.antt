@@ -1,14 +1,8 @@
 -- RCU: a frame looked at, tested and taken up. Assumes nothing.
-use mathlib.Core.Path.{◌≡◌, refl, sym, ◌∙◌, ap, ap₂, subst}
-use mathlib.Core.Bool.{Bool, true, false, not, ◌&&◌}
-use mathlib.Core.List.{List, [], ◌∷◌, map}
-use Prim.Native.Nat.{ℕ, zero, suc, ◌+◌, ◌-◌, ◌≤◌, ◌<◌}
-use native.Mathlib.Numerals.{add-one}
-use native.Mathlib.Omega.{arith}
-use lib.Dec.{leb}
-use lib.ListN.{length, get_or, set, take, drop, length-drop}
-use lib.Seq.{take-length, get_or-drop, length-take-le}
-use borrow.Author.Tests.{ltb-true, lt-leb, le-leb, not-true, not-false}
+use Rattle.std.proofs.Common.{◌≡◌, ℕ, zero, suc, ◌+◌, ◌-◌, ◌≤◌, ◌<◌, Bool, true, false, ◌&&◌, List, [], ◌∷◌, map, length, get_or, set, take, drop, Result, Ok, Err, refl, sym, ap, subst, ◌∙◌, add-one, arith, leb, length-drop, length-take-le, ltb-true, le-leb}
+use Rattle.std.proofs.Math.Seq.{take-length, get_or-drop}
+use mathlib.Core.Path.{ap₂}
+use borrow.Author.Tests.{lt-leb}
 use Rattle.model.specs.Words as Words
 use Rattle.model.specs.Words.{Pointer, descriptor_in, pointer_in}
 use Rattle.model.specs.Registers.{Dbr, Registers, machine, dbr_in}
@@ -20,12 +14,12 @@ use Rattle.model.proofs.DeliveredLaws.{restored}
 use Rattle.words.specs.View.{as_pointer, DecodedPointer}
 use Rattle.words.specs.declared.descriptor.Descriptor.{Descriptor}
 use Rattle.words.specs.declared.pointer.Pointer as Code
-use Rattle.segments.specs.Translation.{as_dbr, SegmentFits, SegmentHolds, descriptor_word, use_at, looked}
-use Rattle.segments.specs.declared.translate.Translated.{Translated}
-use Rattle.segments.specs.declared.translate.Translated.TheVariants.{Refused, Passed}
+use Rattle.segments.specs.Translation.{as_dbr, descriptor_word, use_at, Looks, looked}
+use Rattle.questions.specs.declared.fault.Fault.{Fault}
+use Rattle.questions.specs.Numbers.{fault_number}
 use Rattle.segments.specs.declared.translate.Dbr as CodeDbr
-use Rattle.segments.proofs.UseLaws.{segment_fits, look_refused}
-use Rattle.state.specs.View.{pointers_in, as_pointers, registers_with, machine_with, ended, passed_by}
+use Rattle.segments.proofs.UseLaws.{look_refused}
+use Rattle.state.specs.View.{pointers_in, as_pointers, registers_with, machine_with, ended}
 use Rattle.state.specs.declared.Core.{Core}
 use Rattle.state.specs.declared.End.TheVariants.{Completed, Faulted}
 use Rattle.restore.specs.declared.Settled.{Settled}
@@ -165,105 +159,75 @@ module _ (c : Core) (ps : List Pointer) (m : List ℕ) (p : Program) (x : Settle
   unfolding ended machine
   ends_complete us k e r f g = rw e (record { ends = g ∙ ap (λ z. completes (record { registers = z; memory = m })) (sym f) })
 
-module _ (c : Core) (ps : List Pointer) (size : ℕ) (f : List ℕ) (t : Pointer) (v : CodeDbr.Dbr) (g : as_dbr v ≡ dbr_in (get_or f 3 0))
-    (b : Bool) (h : b ≡ dbr_fits size (as_dbr v)) (x : Settled) where
-  fits_as : (a : Bool) → b ≡ a → dbr_fits size (Step.registers_in f).dbr ≡ a
+module _ (c : Core) (ps : List Pointer) (size : ℕ) (f : List ℕ) (t : Pointer) (x : Settled) where
+  fits_as : (b : Bool) → dbr_fits size (dbr_in (get_or f 3 0)) ≡ b → dbr_fits size (Step.registers_in f).dbr ≡ b
   unfolding Step.registers_in
-  fits_as a e = ap (dbr_fits size) (sym g) ∙ sym h ∙ e
+  fits_as b h = h
 
-  pub frame_unfit : (u : Code.Pointer) → not b ≡ true → x ≡ fault_of c 34 u → as_pointer u ≡ t → Taken c ps size f t x ps
+  pub frame_unfit : (e : Fault) (u : Code.Pointer) → fault_number e ≡ 34 → dbr_fits size (dbr_in (get_or f 3 0)) ≡ false → x ≡ fault_of c (fault_number e) u → as_pointer u ≡ t → Taken c ps size f t x ps
   unfolding execute machine
-  frame_unfit u i j k =
+  frame_unfit e u g h j k =
       record {
         ends = λ m _.
-            ends_fault c ps m _ x 34 u j
-            (executed_34 (registers_with c ps) m size t (Step.registers_in f) (fits_as false (not-true b i)) ∙ rw k);
+            ends_fault c ps m _ x (fault_number e) u j
+            (executed_34 (registers_with c ps) m size t (Step.registers_in f) (fits_as false h) ∙ rw (g, k));
       }
 
-  module _ (i : not b ≡ false) (p : Code.Pointer) (d : DecodedPointer (get_or f 4 0) p) (r : Bool) (q : r ≡ all_at_least p.ring f) where
+  module _ (h : dbr_fits size (dbr_in (get_or f 3 0)) ≡ true) (p : Code.Pointer) (d : DecodedPointer (get_or f 4 0) p) (r : Bool) (q : r ≡ all_at_least p.ring f) where
     rings_as : (a : Bool) → r ≡ a → rings_at_least (Step.registers_in f).ipr.ring (Step.registers_in f).prs ≡ a
     unfolding Step.registers_in
     rings_as a e = ap (λ (z : Pointer). rings_at_least z.ring (map pointer_in (take 8 (drop 5 f)))) (sym d.same) ∙ sym q ∙ e
 
-    pub frame_below : (u : Code.Pointer) → not r ≡ true → x ≡ fault_of c 52 u → as_pointer u ≡ t → Taken c ps size f t x ps
+    pub frame_below : (u : Code.Pointer) → r ≡ false → x ≡ fault_of c 52 u → as_pointer u ≡ t → Taken c ps size f t x ps
     unfolding execute machine
     frame_below u j k l =
         record {
           ends = λ m _.
               ends_fault c ps m _ x 52 u k
-              (executed_52 (registers_with c ps) m size t (Step.registers_in f) (fits_as true (not-false b i)) (rings_as false (not-true r j)) ∙ rw l);
+              (executed_52 (registers_with c ps) m size t (Step.registers_in f) (fits_as true h) (rings_as false j) ∙ rw l);
         }
 
-    pub frame_taken : not r ≡ false → (us : List Pointer) → us ≡ map pointer_in (take 8 (drop 5 f)) →
+    pub frame_taken : r ≡ true → (v : CodeDbr.Dbr) → as_dbr v ≡ dbr_in (get_or f 3 0) → (us : List Pointer) → us ≡ map pointer_in (take 8 (drop 5 f)) →
         x ≡ record { core = record { a = get_or f 2 0; dbr = v; ipr = p }; end = Completed } → Taken c ps size f t x us
     unfolding execute machine Step.registers_in
-    frame_taken j us k e =
+    frame_taken j v g us k e =
         record {
           ends = λ m _.
               ends_complete c ps m _ x us _ e (Step.registers_in f)
               (λ n. record { a = get_or f 2 0; dbr = g n; ipr = d.same n; prs = k n })
-              (executed (registers_with c ps) m size t (Step.registers_in f) (fits_as true (not-false b i)) (rings_as true (not-false r j)));
+              (executed (registers_with c ps) m size t (Step.registers_in f) (fits_as true h) (rings_as true j));
         }
 
-pub ruleset takings = (frame_unfit, frame_below, frame_taken)
-
 -- WHERE THE FRAME'S LAST WORD IS INSIDE, the frame is there whole
-module _ (y : Translated) (d : Descriptor) (e : y ≡ Passed d) (i : ℕ) (h : SegmentHolds y (i + 12)) where
-  pub frame_within : i + 13 ≤ (descriptor_in d.0).length
-  frame_within = let z = h.inside d e in omega (arith, z)
+module _ (b : Dbr) (m : List ℕ) (t : Pointer) (d : ℕ) (s : Looks b m t (part_questions 13 t) d) where
+  pub frame_within : t.word + 13 ≤ (descriptor_in d).length
+  unfolding part_questions word_questions
+  frame_within =
+      let z = ltb-true (t.word + 13 - 1) (descriptor_in d).length (ask_yes _ _ _ (then_ask_yes _ _ s.asked).0).0 in
+      omega (arith, z)
 
-  pub thirteen_words : (m f : List ℕ) → SegmentFits y (length m) → f ≡ take 13 (drop ((descriptor_in d.0).address + i) m) → length f ≡ 13
-  thirteen_words m f s g =
+  pub thirteen_words : (f : List ℕ) → f ≡ take 13 (drop ((descriptor_in d).address + t.word) m) → length f ≡ 13
+  thirteen_words f g =
       let x = frame_within in
-      let z = s.fits d e in
-      let l = length-drop ((descriptor_in d.0).address + i) m in
-      ap length g ∙ length-take-le 13 (drop ((descriptor_in d.0).address + i) m) (omega (arith, x, z, l))
+      let z = s.found.fits in
+      let l = length-drop ((descriptor_in d).address + t.word) m in
+      ap length g ∙ length-take-le 13 (drop ((descriptor_in d).address + t.word) m) (omega (arith, x, z, l))
 
--- the frame's words in a segment, taken up
-abbrev pub taken_there : (memory : List ℕ) → Pointer → Words.Descriptor → Program
-taken_there m t d = Step.take_up (length m) t (Step.registers_in (take 13 (drop (d.address + t.word) m)))
+-- RCU, by what the look has answered
+module _ (c : Core) (ps : List Pointer) (m : List ℕ) (t : Pointer) (y : Result Descriptor Fault) (s : looked (as_dbr c.dbr) m t (part_questions 13 t) y) (x : Settled) where
+  pub restore_refused : (e : Fault) (u : Code.Pointer) → y ≡ Err e → x ≡ fault_of c (fault_number e) u → as_pointer u ≡ t → EndsAs c ps m (Step.restore (length m) t) x ps m
+  unfolding Step.restore
+  restore_refused e u f g h = ends_fault c ps m _ x (fault_number e) u g (look_refused (machine_with c ps m) t _ y s _ e f ∙ ap (faults (fault_number e)) (sym h))
 
--- RCU, once 11 to 15 and 22 are answered
-module _ (c : Core) (ps : List Pointer) (m : List ℕ) (t : Pointer) (y : Translated) (x : Settled) where
-  pub restored_refused : (n : ℕ) (u : Code.Pointer) → y ≡ Refused n → x ≡ fault_of c n u → as_pointer u ≡ t → EndsAs c ps m (passed_by y t (taken_there m t)) x ps m
-  unfolding passed_by execute
-  restored_refused n u e f h = ends_fault c ps m _ x n u f (rw (e, h))
-
-  pub restored_taken : (e : Descriptor) → y ≡ Passed e → (f : List ℕ) → f ≡ take 13 (drop ((descriptor_in e.0).address + t.word) m) → (us : List Pointer) →
-      Taken c ps (length m) f t x us → EndsAs c ps m (passed_by y t (taken_there m t)) x us m
-  unfolding passed_by
-  restored_taken e g f h us k = rw (g, ← h) (k.ends m refl)
-
-pub ruleset restorings = (segment_fits, frame_within, thirteen_words)
-
-pub part_holds : (b : Dbr) (m : List ℕ) (t : Pointer) (y : Translated) → looked b m t (part_questions 13 t) y → SegmentHolds y (t.word + 12)
-unfolding part_questions word_questions
-part_holds b m t y s =
-    record {
-      inside = λ d e.
-          let z = ltb-true (t.word + 13 - 1) (descriptor_in d.0).length (ask_yes _ _ _ (then_ask_yes _ _ (rw e at s).asked).0).0 in
-          omega (arith, z);
-    }
-
--- by what the look has answered
-restore_refuses : (c : Core) (ps : List Pointer) (m : List ℕ) (t : Pointer) (n : ℕ) → looked (as_dbr c.dbr) m t (part_questions 13 t) (Refused n) →
-    execute (machine_with c ps m) (Step.restore (length m) t) ≡ faults n t
-unfolding Step.restore
-restore_refuses c ps m t n s = look_refused (machine_with c ps m) t _ (Refused n) s _ n refl
-
-pub restore_looked : (c : Core) (ps : List Pointer) (m : List ℕ) (t : Pointer) (y : Translated) → looked (as_dbr c.dbr) m t (part_questions 13 t) y → (x : Settled) (us : List Pointer) →
-    EndsAs c ps m (passed_by y t (taken_there m t)) x us m → EndsAs c ps m (Step.restore (length m) t) x us m
-unfolding passed_by execute part_questions word_questions use_at absolute_address descriptor_of descriptor_word
-restore_looked c ps m t y s x us h =
-    record { ends = subst (λ z. ended (machine_with c ps m) z x.end (machine_with x.core us m)) (sym (by_answer y s)) h.ends }
-  where
-    by_answer : (y : Translated) → looked (as_dbr c.dbr) m t (part_questions 13 t) y →
-        execute (machine_with c ps m) (Step.restore (length m) t) ≡ execute (machine_with c ps m) (passed_by y t (taken_there m t))
-    by_answer (Refused n) s = restore_refuses c ps m t n s
-    by_answer (Passed e) l =
-        let d = l.found.same in
-        let asked = then_ask_yes _ _ l.asked in
-        let whole = ltb-true (t.word + 13 - 1) (descriptor_in e.0).length (ask_yes _ _ _ asked.0).0 in
-        restored (machine_with c ps m) t (use_passes_segment _ _ _ _ l.found.passes) (rw (← d) asked.1)
-        (let z = ap (λ w. (descriptor_in w).length) d in omega (arith, z, whole))
-        ∙ ap (λ w. execute (machine_with c ps m) (taken_there m t (descriptor_in w))) (sym d)
+  pub restore_taken : (e : Descriptor) → y ≡ Ok e → (f : List ℕ) → f ≡ take 13 (drop ((descriptor_in e.0).address + t.word) m) → (us : List Pointer) →
+      Taken c ps (length m) f t x us → EndsAs c ps m (Step.restore (length m) t) x us m
+  unfolding use_at absolute_address descriptor_of descriptor_word execute part_questions word_questions
+  restore_taken e g f h us k =
+      let l : Looks (as_dbr c.dbr) m t (part_questions 13 t) e.0 = rw g at s in
+      let d = l.found.same in
+      let asked = then_ask_yes _ _ l.asked in
+      let whole = ltb-true (t.word + 13 - 1) (descriptor_in e.0).length (ask_yes _ _ _ asked.0).0 in
+      let taken = restored (machine_with c ps m) t (use_passes_segment _ _ _ _ l.found.passes) (rw (← d) asked.1)
+      (let z = ap (λ w. (descriptor_in w).length) d in omega (arith, z, whole))
+      ∙ ap (λ w. execute (machine_with c ps m) (Step.take_up (length m) t (Step.registers_in (take 13 (drop ((descriptor_in w).address + t.word) m))))) (sym d) in
+      record { ends = subst (λ z. ended (machine_with c ps m) z x.end (machine_with x.core us m)) (sym taken) (rw (← h) (k.ends m refl).ends) }

@@ -6,13 +6,15 @@ ghost use Rattle.model.specs.Words.{descriptor_in, pointer_in};
 ghost use Rattle.model.specs.Questions.{rings_at_least, part_questions};
 ghost use Rattle.model.specs.Step as Step;
 ghost use Rattle.words.specs.View.{as_pointer};
-ghost use Rattle.segments.specs.Translation.{as_dbr, SegmentFits, SegmentHolds, looked};
+ghost use Rattle.questions.specs.Numbers.{fault_number};
+ghost use Rattle.segments.specs.Translation.{as_dbr, looked};
 ghost use Rattle.state.specs.declared.End.TheVariants.{Faulted};
-ghost use Rattle.state.specs.View.{as_pointers, Ready, passed_by};
+ghost use Rattle.state.specs.View.{as_pointers, Ready};
 ghost use Rattle.restore.specs.Taken.{EndsAs, Taken};
 
 use questions::Use;
-use segments::translate::{Dbr, Translated};
+use questions::fault::Fault;
+use segments::translate::Dbr;
 use state::{Core, End};
 use words::descriptor::Descriptor;
 use words::pointer::{Pointer, WordNumber};
@@ -34,16 +36,15 @@ fn frame_at(memory: &[u64], d: Descriptor, word: WordNumber) -> &[u64]
 }
 
 // 52: is no PR of the frame in a lower ring?
+// Stays: a loop where `all` on an iterator was tried, whose proof did not close.
 fn are_at_least(ring: u64, frame: &[u64]) -> bool
     requires { length frame.now ≡ 13 }
     ensures { result ≡ rings_at_least ring (map pointer_in (take 8 (drop 5 frame.now))) }
 {
-    let mut k: usize = 5;
-    while k < 13 {
+    for k in 5..13 {
         if words::pointer::decode(frame[k]).ring < ring {
             return false;
         }
-        k += 1;
     }
     true
 }
@@ -53,19 +54,17 @@ fn take_prs(prs: &mut [u16; 24], frame: &[u64])
     requires { length frame.now ≡ 13 }
     ensures { as_pointers prs.new ≡ map pointer_in (take 8 (drop 5 frame.now)) }
 {
-    let mut k: usize = 0;
-    while k < 8 {
+    for k in 0..8 {
         state::prs::set_pr(prs, k, words::pointer::decode(frame[5 + k]));
-        k += 1;
     }
 }
 
-fn faulted(core: Core, n: u8, t: Pointer) -> Settled
-    ensures { result ≡ record { core = core; end = Faulted n t } }
+fn faulted(core: Core, fault: Fault, t: Pointer) -> Settled
+    ensures { result ≡ record { core = core; end = Faulted (fault_number fault) t } }
 {
     Settled {
         core,
-        end: End::Faulted(n, t),
+        end: End::Faulted(fault.number(), t),
     }
 }
 
@@ -74,13 +73,13 @@ fn take_up(core: Core, prs: &mut [u16; 24], frame: &[u64], words: usize, t: Poin
     requires { length frame.now ≡ 13 }
     ensures { Taken core (as_pointers prs.old) words frame.now (as_pointer t) result (as_pointers prs.new) }
 {
-    let dbr = operations::access::dbr_in(frame[3]);
-    if !operations::access::is_dbr(dbr, words) {
-        return faulted(core, 34, t);
-    }
+    let dbr = match operations::access::dbr_answer(frame[3], words) {
+        Err(fault) => return faulted(core, fault, t),
+        Ok(dbr) => dbr,
+    };
     let ipr = words::pointer::decode(frame[4]);
     if !are_at_least(ipr.ring, frame) {
-        return faulted(core, 52, t);
+        return faulted(core, Fault::FrameRingsBelow, t);
     }
     take_prs(prs, frame);
     Settled {
@@ -94,28 +93,20 @@ fn take_up(core: Core, prs: &mut [u16; 24], frame: &[u64], words: usize, t: Poin
 }
 
 // The look at its frame; a function of its own for speed (docs/PERFORMANCE.md).
-fn look(dbr: Dbr, memory: &[u64], t: Pointer) -> Translated
+fn look(dbr: Dbr, memory: &[u64], t: Pointer) -> Result<Descriptor, Fault>
     requires { dbr.address + dbr.length ≤ length memory.now }
     ensures { looked (as_dbr dbr) memory.now (as_pointer t) (part_questions 13 (as_pointer t)) result }
 {
     segments::access::look(Use::Frame, dbr, memory, t, t)
 }
 
+// The frame at `t` is taken up.
 pub fn restore(core: Core, prs: &mut [u16; 24], memory: &[u64], t: Pointer) -> Settled
     requires { Ready core memory.now }
     ensures { EndsAs core (as_pointers prs.old) memory.now (Step.restore (length memory.now) (as_pointer t)) result (as_pointers prs.new) memory.now }
 {
-    let dbr = core.dbr;
-    restored(core, prs, memory, t, look(dbr, memory, t))
-}
-
-// What it does with the look's answer, wherever the descriptor was found.
-fn restored(core: Core, prs: &mut [u16; 24], memory: &[u64], t: Pointer, x: Translated) -> Settled
-    requires { SegmentFits x (length memory.now) × SegmentHolds x (t.word.0 + 12) }
-    ensures { EndsAs core (as_pointers prs.old) memory.now (passed_by x (as_pointer t) (λ d. Step.take_up (length memory.now) (as_pointer t) (Step.registers_in (take 13 (drop (d.address + t.word.0) memory.now))))) result (as_pointers prs.new) memory.now }
-{
-    match x {
-        Translated::Refused(n) => faulted(core, n, t),
-        Translated::Passed(d) => take_up(core, prs, frame_at(memory, d, t.word), memory.len(), t),
+    match look(core.dbr, memory, t) {
+        Err(fault) => faulted(core, fault, t),
+        Ok(d) => take_up(core, prs, frame_at(memory, d, t.word), memory.len(), t),
     }
 }

@@ -21,8 +21,8 @@ use Rattle.state.proofs.PassingLaws.{prs_in_range, ready_passing, ipr_passing}
 use Rattle.dispatch.specs.Plain.{plain_program, plain_step}
 use Rattle.dispatch.specs.Dispatch.{dispatched_in}
 use Rattle.processor.specs.Step.{ReadyToPerform, QuicklyFormed}
-use Rattle.processor.specs.declared.Prepared.{Prepared}
-use Rattle.processor.specs.declared.Prepared.TheVariants as Prepared
+use Rattle.std.proofs.Common.{Option, Some, None}
+use Rattle.processor.specs.declared.Instruction.{Instruction}
 use Rattle.run.specs.Run.{Noted, OnTheWay, AtTheEnd, WentAs, NextFormed}
 use Rattle.run.proofs.RunLaws.{performed_ends, passing_after, way_starts, way_faults, way_halts, way_goes_on, fault_within}
 
@@ -160,9 +160,9 @@ module _ (b s r : ℕ) (m : Machine) (t₀ : List ℕ) (x : After) (prs memory t
                 moved = λ _. further;
               }
 
-          pub turn_goes_on : (v : ℕ) (p : Pointer) (q : Prepared) → NextFormed (count + 1) b (as_machine y.core prs_now memory_now) q → q ≡ Prepared.Ready v p →
-              Turning b s r m t₀ y prs_now memory_now trace_now v p 0 (count + 1) going
-          turn_goes_on v p q k g =
+          pub turn_goes_on : (j : Instruction) (q : Option Instruction) → NextFormed (count + 1) b (as_machine y.core prs_now memory_now) q → q ≡ Some j →
+              Turning b s r m t₀ y prs_now memory_now trace_now j.word j.pointer 0 (count + 1) going
+          turn_goes_on j q k g =
               let h = rw g at k in
               record {
                 done = r;
@@ -177,6 +177,6 @@ module _ (b s r : ℕ) (m : Machine) (t₀ : List ℕ) (x : After) (prs memory t
               }
 
 -- the quick way, with budget left
-pub next_law : (c b : ℕ) (m : Machine) (x : Prepared) → QuicklyFormed m x → c < b → NextFormed c b m x
-next_law c b m Prepared.No q h = tt
-next_law c b m (Prepared.Ready w t) q h = (q, h)
+pub next_law : (c b : ℕ) (m : Machine) (x : Option Instruction) → QuicklyFormed m x → c < b → NextFormed c b m x
+next_law c b m None q h = tt
+next_law c b m (Some i) q h = (q, h)

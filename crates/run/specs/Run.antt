@@ -1,6 +1,5 @@
 -- A run by a step, what its answer says, and what the part of it says that goes the quick way. Assumes nothing: these are definitions.
-use Rattle.std.specs.Prelude.{◌≡◌, List, [], ◌∷◌, ◌++◌, map, ℕ, zero, suc, ◌+◌, ◌-◌, ◌/◌, ◌≤◌, ◌<◌, length, take}
-use Rattle.model.specs.Words as Words
+use Rattle.std.specs.Prelude.{◌≡◌, List, [], ◌∷◌, ◌++◌, map, ℕ, zero, suc, ◌+◌, ◌-◌, ◌/◌, ◌≤◌, ◌<◌, length, take, Option, Some, None}
 use Rattle.model.specs.Words.{pointer_in}
 use Rattle.model.specs.Registers.{Delivery, no_delivery, Machine}
 use Rattle.model.specs.Questions.{start_questions}
@@ -9,12 +8,10 @@ use Rattle.model.specs.Step.{pointer_words}
 use Rattle.model.specs.Run as Run
 use Rattle.words.specs.View.{as_pointer, PointerWithin}
 use Rattle.state.specs.declared.End.{End}
-use Rattle.state.specs.declared.End.TheVariants as End
 use Rattle.state.specs.Reply.{as_reply, ReplyWithin, completed}
 use Rattle.dispatch.specs.Plain.{plain_step}
 use Rattle.processor.specs.Step.{ReadyToPerform}
-use Rattle.processor.specs.declared.Prepared.{Prepared}
-use Rattle.processor.specs.declared.Prepared.TheVariants as Prepared
+use Rattle.processor.specs.declared.Instruction.{Instruction}
 use Rattle.run.specs.declared.Ran.{Ran}
 use Rattle.run.specs.declared.Went.{Went}
 
@@ -93,6 +90,6 @@ pub record WentAs (budget c : ℕ) (m : Machine) (trace : List ℕ) (x : Went) (
   pub read_within : x.read ≤ 64
 
 -- the next instruction by the quick way, with budget left for it
-abbrev pub NextFormed : (count budget : ℕ) → Machine → Prepared → Type 0
-NextFormed c b m Prepared.No = Unit {0}
-NextFormed c b m (Prepared.Ready w t) = ReadyToPerform m w t 0 × (c < b)
+abbrev pub NextFormed : (count budget : ℕ) → Machine → Option Instruction → Type 0
+NextFormed c b m None = Unit {0}
+NextFormed c b m (Some i) = ReadyToPerform m i.word i.pointer 0 × (c < b)

@@ -12,7 +12,7 @@ ghost use Rattle.dispatch.specs.Plain.{plain_step};
 ghost use Rattle.processor.specs.Step.{ReadyToPerform, QuicklyFormed};
 ghost use Rattle.run.specs.Run.{run_by, Counted, Noted, RanAs, Traced, WentAs, NextFormed};
 
-use processor::{Formed, Prepared};
+use processor::{Formed, Instruction};
 use state::reply::Reply;
 use state::{After, Core, End};
 use words::descriptor::Descriptor;
@@ -44,10 +44,10 @@ pub fn note(trace: &mut [u64], count: u32, p: Pointer, pointers: u64)
     ensures { Noted count (record { ipr = as_pointer p; pointers = pointers }) trace.old trace.new }
 {
     let i = count as usize;
-    if trace.len() <= i {
-        return;
+    // Stays: after `get_mut` a proof knows of a slice its length alone.
+    if i < trace.len() {
+        trace[i] = words::pointer::encode(p) + 4294967296 * pointers;
     }
-    trace[i] = words::pointer::encode(p) + 4294967296 * pointers;
 }
 
 // The next instruction by the quick way, while the budget lasts.
@@ -58,12 +58,12 @@ fn next(
     memory: &[u64],
     count: u32,
     budget: u32,
-) -> Prepared
+) -> Option<Instruction>
     requires { (start_questions no_delivery (as_machine core prs.now memory.now) ≡ 0) × CodeRight code.0 core.ipr.ring (length memory.now) }
     ensures { NextFormed count budget (as_machine core prs.now memory.now) result }
 {
     if budget <= count {
-        return Prepared::No;
+        return None;
     }
     processor::quick(code, core, prs, memory)
 }
@@ -71,76 +71,73 @@ fn next(
 // Steps from an instruction that is formed, as far as the quick way leads; the first alone has read pointer words.
 fn go_on(
     core: Core,
-    code: Descriptor,
+    first: Formed,
     prs: &mut [u16; 24],
     memory: &mut [u64],
-    first: u64,
-    at: Pointer,
-    read: u64,
     start: u32,
     budget: u32,
     trace: &mut [u64],
 ) -> Went
-    requires { (start_questions no_delivery (as_machine core prs.old memory.old) ≡ 0) × ReadyToPerform (as_machine core prs.old memory.old) first at read × CodeRight code.0 core.ipr.ring (length memory.old) × (start < budget) }
+    requires { (start_questions no_delivery (as_machine core prs.old memory.old) ≡ 0) × ReadyToPerform (as_machine core prs.old memory.old) first.instruction.word first.instruction.pointer first.read × CodeRight first.code.0 core.ipr.ring (length memory.old) × (start < budget) }
     ensures { WentAs budget start (as_machine core prs.old memory.old) trace.old result (as_machine result.core prs.new memory.new) trace.new }
 {
     let mut x = After {
         core,
-        code,
+        code: first.code,
         end: End::Completed,
     };
-    let mut w = first;
-    let mut t = at;
-    let mut pointers = read;
+    let mut instruction = first.instruction;
+    let mut pointers = first.read;
     let mut count = start;
     let mut going = true;
+    // Stays: this is the loop of every step. One call of `perform` and no more carried than this give docs/PERFORMANCE.md's numbers.
     while going {
-        x = dispatch::perform(x.core, x.code, prs, memory, w, t);
-        let end = x.end;
-        match end {
-            End::Completed => {
-                note(trace, count, x.core.ipr, pointers);
-            }
+        x = dispatch::perform(
+            x.core,
+            x.code,
+            prs,
+            memory,
+            instruction.word,
+            instruction.pointer,
+        );
+        match x.end {
+            End::Completed => note(trace, count, x.core.ipr, pointers),
             End::Halted => {
-                let after = x.core;
-                note(trace, count, after.ipr, pointers);
+                note(trace, count, x.core.ipr, pointers);
                 return Went {
-                    core: after,
+                    core: x.core,
                     count: count + 1,
                     end: End::Halted,
-                    read,
+                    read: first.read,
                     last: 0,
                 };
             }
             End::Faulted(n, p) => {
-                let after = x.core;
                 return Went {
-                    core: after,
+                    core: x.core,
                     count,
                     end: End::Faulted(n, p),
-                    read: read - pointers,
+                    read: first.read - pointers,
                     last: pointers,
                 };
             }
         }
         count += 1;
         match next(x.code, x.core, prs, memory, count, budget) {
-            Prepared::No => {
+            None => {
                 going = false;
             }
-            Prepared::Ready(v, p) => {
-                w = v;
-                t = p;
+            Some(i) => {
+                instruction = i;
                 pointers = 0;
             }
         }
     }
-    let after = x.core;
     Went {
-        core: after,
+        core: x.core,
         count,
         end: End::Completed,
-        read,
+        read: first.read,
         last: 0,
     }
 }
@@ -163,21 +160,20 @@ pub fn run(
     let mut total: u64 = 0;
     while count < budget {
         match processor::form(at, prs, memory) {
-            Formed::Bad(n, t, read) => {
+            Err(f) => {
                 return Ran {
-                    reply: Reply::Fault(n, count, t),
+                    reply: Reply::Fault(f.fault.number(), count, f.pointer),
                     core: at,
                     total,
-                    last: read,
+                    last: f.read,
                 };
             }
-            Formed::Ready(w, t, d, read) => {
-                let y = go_on(at, d, prs, memory, w, t, read, count, budget, trace);
-                let end = y.end;
+            Ok(formed) => {
+                let y = go_on(at, formed, prs, memory, count, budget, trace);
                 at = y.core;
                 count = y.count;
                 total += y.read;
-                match end {
+                match y.end {
                     End::Completed => {}
                     End::Halted => {
                         return Ran {

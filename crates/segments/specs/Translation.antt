@@ -1,15 +1,14 @@
 -- What a use of a segment answers, by DBR and memory alone: 11 to 15, the questions of the use, and the access. Assumes nothing: these are definitions.
-use Rattle.std.specs.Prelude.{◌≡◌, true, List, ℕ, zero, suc, ◌+◌, ◌<◌, ◌≤◌, length, get_or, set}
+use Rattle.std.specs.Prelude.{◌≡◌, true, List, ℕ, ◌+◌, ◌<◌, ◌≤◌, length, get_or, set, Result, Ok, Err}
 use Rattle.model.specs.Words as Words
 use Rattle.model.specs.Words.{descriptor_in}
 use Rattle.model.specs.Registers as Registers
 use Rattle.model.specs.Questions.{Question, then_ask, segment_questions, word_questions, use_questions, may_execute}
 use Rattle.words.specs.declared.descriptor.Descriptor.{Descriptor}
+use Rattle.questions.specs.declared.fault.Fault.{Fault}
+use Rattle.questions.specs.Numbers.{fault_number}
 use Rattle.segments.specs.declared.translate.Dbr.{Dbr}
-use Rattle.segments.specs.declared.translate.Translated.{Translated}
-use Rattle.segments.specs.declared.translate.Translated.TheVariants.{Refused, Passed}
-use Rattle.segments.specs.declared.access.Accessed.{Accessed}
-use Rattle.segments.specs.declared.access.Accessed.TheVariants as Accessed
+use Rattle.segments.specs.declared.access.ReadWord.{ReadWord}
 
 abbrev pub as_dbr : Dbr → Registers.Dbr
 as_dbr d = record { address = d.address; length = d.length }
@@ -29,27 +28,17 @@ descriptor_answer n w = segment_questions n (record { address = 0; length = 1 })
 unfoldable pub word_answer : (size descriptor word : ℕ) → ℕ
 word_answer n w i = then_ask (descriptor_answer n w) (word_questions i (descriptor_in w))
 
--- A DESCRIPTOR WHEREVER IT WAS FOUND (02, L7): the first no, or the descriptor
-unfoldable pub passed_unless : (answer : ℕ) → Descriptor → Translated
-passed_unless zero d = Passed d
-passed_unless (suc n) d = Refused (suc n)
-
--- the questions of the use, of a descriptor that has passed 11 to 15
-unfoldable pub asked_of : Question → Translated → Translated
-asked_of q (Refused n) = Refused n
-asked_of q (Passed d) = passed_unless (q (descriptor_in d.0)) d
-
 -- what a passed descriptor leads to: a segment within memory, and a word of that segment
-pub record SegmentFits (x : Translated) (size : ℕ) : Type 0 where
-  pub fits : (d : Descriptor) → x ≡ Passed d → (descriptor_in d.0).address + (descriptor_in d.0).length ≤ size
+pub record SegmentFits (x : Result Descriptor Fault) (size : ℕ) : Type 0 where
+  pub fits : (d : Descriptor) → x ≡ Ok d → (descriptor_in d.0).address + (descriptor_in d.0).length ≤ size
 
-pub record SegmentHolds (x : Translated) (word : ℕ) : Type 0 where
-  pub inside : (d : Descriptor) → x ≡ Passed d → word < (descriptor_in d.0).length
+pub record SegmentHolds (x : Result Descriptor Fault) (word : ℕ) : Type 0 where
+  pub inside : (d : Descriptor) → x ≡ Ok d → word < (descriptor_in d.0).length
 
 -- and that it has passed 12 to 14 in a memory of that size, and the questions of the use
-pub record SegmentRight (x : Translated) (q : Question) (size : ℕ) : Type 0 where
-  pub right : (d : Descriptor) → x ≡ Passed d → descriptor_answer size d.0 ≡ 0
-  pub asked : (d : Descriptor) → x ≡ Passed d → q (descriptor_in d.0) ≡ 0
+pub record SegmentRight (x : Result Descriptor Fault) (q : Question) (size : ℕ) : Type 0 where
+  pub right : (d : Descriptor) → x ≡ Ok d → descriptor_answer size d.0 ≡ 0
+  pub asked : (d : Descriptor) → x ≡ Ok d → q (descriptor_in d.0) ≡ 0
 
 -- 11 to 15, then the questions of the use
 unfoldable pub use_at : Registers.Dbr → (memory : List ℕ) → Words.Pointer → ℕ
@@ -66,45 +55,33 @@ pub record Passes (b : Registers.Dbr) (m : List ℕ) (t : Words.Pointer) (d : �
   pub inside : t.word < (descriptor_in d).length
   pub fits : (descriptor_in d).address + (descriptor_in d).length ≤ length m
 
-abbrev pub translated : Registers.Dbr → (memory : List ℕ) → Words.Pointer → Translated → Type 0
-translated b m t (Refused n) = (use_at b m t ≡ n) × (1 ≤ n)
-translated b m t (Passed d) = Passes b m t d.0
+-- A DESCRIPTOR by 11 to 15: the first no, or the descriptor
+abbrev pub translated : Registers.Dbr → (memory : List ℕ) → Words.Pointer → Result Descriptor Fault → Type 0
+translated b m t (Err e) = use_at b m t ≡ fault_number e
+translated b m t (Ok d) = Passes b m t d.0
 
 -- A LOOK at the descriptor, with the questions of the use
 pub record Looks (b : Registers.Dbr) (m : List ℕ) (t : Words.Pointer) (q : Question) (d : ℕ) : Type 0 where
   pub found : Passes b m t d
   pub asked : q (descriptor_in d) ≡ 0
 
-abbrev pub looked : Registers.Dbr → (memory : List ℕ) → Words.Pointer → Question → Translated → Type 0
-looked b m t q (Refused n) = (use_by b m t q ≡ n) × (1 ≤ n)
-looked b m t q (Passed d) = Looks b m t q d.0
+abbrev pub looked : Registers.Dbr → (memory : List ℕ) → Words.Pointer → Question → Result Descriptor Fault → Type 0
+looked b m t q (Err e) = use_by b m t q ≡ fault_number e
+looked b m t q (Ok d) = Looks b m t q d.0
 
 -- A WORD READ
 unfoldable pub word_through : (memory : List ℕ) → (descriptor word : ℕ) → ℕ
 word_through m d i = get_or m ((descriptor_in d).address + i) 0
 
--- by a descriptor wherever it was found
-unfoldable pub word_by : (memory : List ℕ) → (word : ℕ) → Translated → Accessed
-word_by m i (Refused n) = Accessed.Refused n
-word_by m i (Passed d) = Accessed.Word d (word_through m d.0 i)
-
 pub record Reads (b : Registers.Dbr) (m : List ℕ) (t : Words.Pointer) (q : Question) (d w : ℕ) : Type 0 where
   pub looks : Looks b m t q d
   pub word_same : w ≡ word_through m d t.word
 
-abbrev pub accessed : Registers.Dbr → (memory : List ℕ) → Words.Pointer → Question → Accessed → Type 0
-accessed b m t q (Accessed.Refused n) = (use_by b m t q ≡ n) × (1 ≤ n)
-accessed b m t q (Accessed.Word d w) = Reads b m t q d.0 w
+abbrev pub accessed : Registers.Dbr → (memory : List ℕ) → Words.Pointer → Question → Result ReadWord Fault → Type 0
+accessed b m t q (Err e) = use_by b m t q ≡ fault_number e
+accessed b m t q (Ok w) = Reads b m t q w.descriptor.0 w.word
 
--- A WORD WRITTEN, or the first no and memory as it was: by a descriptor wherever it was found
-unfoldable pub answer_of : Translated → ℕ
-answer_of (Refused n) = n
-answer_of (Passed d) = 0
-
-unfoldable pub written_by : (memory : List ℕ) → (word value : ℕ) → Translated → List ℕ
-written_by m i v (Refused n) = m
-written_by m i v (Passed d) = set m ((descriptor_in d.0).address + i) v
-
+-- A WORD WRITTEN, or the first no and memory as it was
 pub record Writes (b : Registers.Dbr) (m : List ℕ) (t : Words.Pointer) (q : Question) (value answer : ℕ) (m_now : List ℕ) : Type 0 where
   pub asked : use_by b m t q ≡ answer
   pub kept : (answer ≡ 0 → ⊥) → m_now ≡ m

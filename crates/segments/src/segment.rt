@@ -26,6 +26,7 @@ pub fn word_of(segment: &[u64], word: WordNumber) -> u64
 }
 
 // The word that a descriptor and a word number that have passed 11 to 15 lead to.
+#[tactic(auto, unfolding(crate::specs::Translation::word_through))]
 pub fn read(memory: &[u64], d: Descriptor, word: WordNumber) -> u64
     requires { ((descriptor_in d.0).address + (descriptor_in d.0).length ≤ length memory.now) × (word.0 < (descriptor_in d.0).length) }
     ensures { result ≡ word_through memory.now d.0 word.0 }

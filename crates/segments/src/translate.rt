@@ -1,10 +1,13 @@
 // Translation of a pointer through its segment's descriptor: questions 11 to 15.
 ghost use Rattle.std.specs.Prelude.{◌≡◌, ◌+◌, ◌≤◌, length};
 ghost use Rattle.words.specs.View.{as_pointer};
-ghost use Rattle.segments.specs.Translation.{as_dbr, descriptor_answer, word_answer, passed_unless, translated};
+ghost use Rattle.questions.specs.Numbers.{fault_number, number_by};
+ghost use Rattle.segments.specs.Translation.{as_dbr, descriptor_answer, word_answer, translated};
 
+use questions::answer;
+use questions::fault::Fault;
 use words::descriptor::Descriptor;
-use words::pointer::Pointer;
+use words::pointer::{Pointer, WordNumber};
 
 // The descriptor segment.
 #[derive(Clone, Copy)]
@@ -13,57 +16,41 @@ pub struct Dbr {
     pub length: u64,
 }
 
-// The number of the first question with a no, or the descriptor that has passed.
-#[derive(Clone, Copy)]
-pub enum Translated {
-    Refused(u8),
-    Passed(Descriptor),
-}
-
-// 12 to 14 of a descriptor in a memory of so many words; 0 is a yes to all.
-pub fn descriptor_answer(d: Descriptor, words: usize) -> u8
-    ensures { result ≡ descriptor_answer words d.0 }
+// 12 to 14 of a descriptor in a memory of so many words.
+#[tactic(auto, unfolding(crate::specs::Translation::descriptor_answer, model::specs::Questions::segment_questions, model::specs::Questions::ask))]
+pub fn descriptor_answer(d: Descriptor, words: usize) -> Result<(), Fault>
+    ensures { number_by fault_number result ≡ descriptor_answer words d.0 }
 {
-    if !words::descriptor::is_valid(d) {
-        return 12;
-    }
+    answer(words::descriptor::is_valid(d), Fault::NotValid)?;
     let r2 = words::descriptor::r2_of(d);
-    if r2 < words::descriptor::r1_of(d) {
-        return 13;
-    }
-    if words::descriptor::r3_of(d) < r2 {
-        return 13;
-    }
+    let are_in_order = (words::descriptor::r1_of(d) <= r2) & (r2 <= words::descriptor::r3_of(d));
+    answer(are_in_order, Fault::RingsOutOfOrder)?;
     let end = words::descriptor::address_of(d) as usize + words::descriptor::length_of(d) as usize;
-    if words < end {
-        return 14;
-    }
-    0
+    answer(end <= words, Fault::SegmentOutsideMemory)
 }
 
 // 12 to 15 of a descriptor, wherever it was found.
-fn judge(d: Descriptor, words: usize, p: Pointer) -> Translated
-    ensures { result ≡ passed_unless (word_answer words d.0 p.word.0) d }
+#[tactic(auto, unfolding(crate::specs::Translation::word_answer, model::specs::Questions::word_questions, model::specs::Questions::then_ask, model::specs::Questions::ask))]
+fn word_answer(d: Descriptor, words: usize, word: WordNumber) -> Result<(), Fault>
+    ensures { number_by fault_number result ≡ word_answer words d.0 word.0 }
 {
-    let n = descriptor_answer(d, words);
-    if n != 0 {
-        return Translated::Refused(n);
-    }
-    if words::descriptor::length_of(d) <= p.word.0 {
-        return Translated::Refused(15);
-    }
-    Translated::Passed(d)
+    descriptor_answer(d, words)?;
+    answer(
+        word.0 < words::descriptor::length_of(d),
+        Fault::WordOutsideSegment,
+    )
 }
 
-pub fn translate(dbr: Dbr, memory: &[u64], p: Pointer) -> Translated
+// The descriptor of a pointer's segment, where 11 to 15 have a yes.
+#[tactic(auto, using(crate::proofs::TranslateLaws::law_11))]
+pub fn translate(dbr: Dbr, memory: &[u64], p: Pointer) -> Result<Descriptor, Fault>
     requires { dbr.address + dbr.length ≤ length memory.now }
     ensures { translated (as_dbr dbr) memory.now (as_pointer p) result }
 {
     let segment = p.segment.0;
-    if dbr.length <= segment {
-        return Translated::Refused(11);
-    }
+    answer(segment < dbr.length, Fault::NoDescriptor)?;
     let at = dbr.address as usize + segment as usize;
     let d = Descriptor(memory[at]);
-    judge(d, memory.len(), p)
+    word_answer(d, memory.len(), p.word)?;
+    Ok(d)
 }

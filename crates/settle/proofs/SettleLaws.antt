@@ -78,13 +78,17 @@ module _ (dv : Delivery) where
         subst (λ o. ended (as_machine c prs m) o x.end (as_machine x.core prs_now m_now))
         (sym (s ∙ ap (λ i. execute (as_machine c prs m) (stopped (length m) i u)) z)) h.ends
 
-    pub restore_completes : x.end ≡ Completed → Settles dv (as_machine c prs m) (record { core = x.core; end = Completed }) (as_machine x.core prs_now m_now)
+    pub restore_completes : x.end ≡ Completed → Settles dv (as_machine c prs m) x (as_machine x.core prs_now m_now)
     unfolding ended
-    restore_completes e = record { ends = (completes_as_plain dv _ _).0 (rw e at as_step); within = tt }
+    restore_completes e =
+        subst (λ z. Settles dv (as_machine c prs m) (record { core = x.core; end = z }) (as_machine x.core prs_now m_now)) (sym e)
+        (record { ends = (completes_as_plain dv _ _).0 (rw e at as_step); within = tt })
 
-    pub restore_halts : x.end ≡ Halted → Settles dv (as_machine c prs m) (record { core = x.core; end = Halted }) (as_machine x.core prs_now m_now)
+    pub restore_halts : x.end ≡ Halted → Settles dv (as_machine c prs m) x (as_machine x.core prs_now m_now)
     unfolding ended
-    restore_halts e = record { ends = (completes_as_plain dv _ _).1 (rw e at as_step); within = tt }
+    restore_halts e =
+        subst (λ z. Settles dv (as_machine c prs m) (record { core = x.core; end = z }) (as_machine x.core prs_now m_now)) (sym e)
+        (record { ends = (completes_as_plain dv _ _).1 (rw e at as_step); within = tt })
 
     module _ (i : ℕ) (p : Pointer) (e : x.end ≡ Faulted i p) where
       faulted_step : (step (as_machine c prs m) ≡ faults i (as_pointer p)) × (as_machine x.core prs_now m_now ≡ as_machine c prs m)

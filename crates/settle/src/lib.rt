@@ -21,7 +21,7 @@ fn handled(delivery: Delivery, core: Core) -> Core
 {
     let p = Pointer {
         ring: 0,
-        segment: SegmentNumber(delivery.handler as u64),
+        segment: SegmentNumber(u64::from(delivery.handler)),
         word: WordNumber(0),
     };
     state::with_ipr(core, p)
@@ -67,17 +67,9 @@ pub fn settle(
         return settle_fault(delivery, core, prs, memory, number, t);
     }
     let x = restore::restore(core, prs, memory, t);
-    let after = x.core;
-    let end = x.end;
-    match end {
-        End::Completed => Settled {
-            core: after,
-            end: End::Completed,
-        },
-        End::Halted => Settled {
-            core: after,
-            end: End::Halted,
-        },
-        End::Faulted(n, p) => settle_fault(delivery, after, prs, memory, n, p),
+    match x.end {
+        End::Completed => x,
+        End::Halted => x,
+        End::Faulted(n, p) => settle_fault(delivery, x.core, prs, memory, n, p),
     }
 }

@@ -32,8 +32,7 @@ fn print_listing(
         },
         count: 0,
     };
-    let mut turns = u64::MAX;
-    while turns > 0 {
+    for _ in 0..u64::MAX {
         x = listing::list(
             delivery,
             x.line.core,
@@ -51,26 +50,21 @@ fn print_listing(
         if x.line.is_last {
             return;
         }
-        turns -= 1;
     }
 }
 
 // What an image gave: 1 to 4, then its run.
 fn run_image(rt: &impl Print, registers: Registers, memory: &mut [u64], budget: u32) {
-    let x = machine::prepare(registers, memory);
-    if x.number != 0 {
-        streams::print_refusal(rt, x.number);
-        return;
+    match machine::prepare(registers, memory) {
+        Ok(x) => print_listing(rt, registers.delivery, x.core, x.prs, memory, budget),
+        Err(error) => streams::print_refusal(rt, error.number()),
     }
-    let prs = x.prs;
-    print_listing(rt, registers.delivery, x.core, prs, memory, budget);
 }
 
 fn main(rt: HostRuntime) {
     let mut store = loading::empty_store();
-    let x = reading::image_on_input(&rt, &mut store);
-    if x.is_whole {
-        let words = x.words;
-        run_image(&rt, x.registers, &mut store[..words], x.budget);
+    if let Some(start) = reading::image_on_input(&rt, &mut store) {
+        let words = start.words as usize;
+        run_image(&rt, start.registers, &mut store[..words], start.budget);
     }
 }

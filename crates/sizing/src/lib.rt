@@ -5,10 +5,17 @@ ghost use Rattle.std.specs.Prelude.{◌≡◌, ◌-◌, ◌/◌, replicate};
 ghost use Rattle.model.specs.Image.{checked};
 ghost use Rattle.model.specs.Needs.{needs_refused, needs_on, image_needs};
 ghost use Rattle.host.specs.Record.{machine_of, delivery_of};
-ghost use Rattle.sizing.specs.View.{as_needs};
+ghost use Rattle.questions.specs.Numbers.{start_number};
+ghost use Rattle.image.specs.Numbers.{image_number};
+ghost use Rattle.sizing.specs.View.{as_needs, needs_by};
 
-use host::record::Registers;
-use image::load::LoadOutcome;
+use fields::rules::Rules;
+use host::start::record_size_answer;
+use image::error::ImageError;
+use image::load::{LoadOutcome, load};
+use loading::error::LoadError;
+use loading::{Start, empty_set, nothing_loaded};
+use questions::start::StartError;
 
 // The number of the question with a no, or 0 and the five figures.
 #[repr(C)]
@@ -22,11 +29,12 @@ pub struct Needs {
     pub pointers: u64,
 }
 
-pub fn refused(number: u8) -> Needs
-    ensures { as_needs result ≡ needs_refused number }
+#[tactic(auto, unfolding(model::specs::Needs::needs_refused))]
+pub fn refused(error: ImageError) -> Needs
+    ensures { as_needs result ≡ needs_refused (image_number error) }
 {
     Needs {
-        number: number as u64,
+        number: error.number() as u64,
         memory: 0,
         records: 0,
         budget: 0,
@@ -46,20 +54,35 @@ fn records_in(length: u64) -> u64
 }
 
 // Once RN has come: 1 to 4 with ME's number as memory's size, then the figures of an image of so many bytes.
-pub fn needs_of(registers: Registers, words: u32, budget: u32, length: u64) -> Needs
-    ensures { as_needs result ≡ needs_on (checked (delivery_of registers) (machine_of registers (replicate words 0)) budget) ((length - 78) / 14) }
+#[tactic(auto, using(crate::proofs::SizingLaws::answers))]
+pub fn needs_of(start: Start, length: u64) -> Result<Needs, StartError>
+    ensures { needs_by start_number result ≡ needs_on (checked (delivery_of start.registers) (machine_of start.registers (replicate start.words 0)) start.budget) ((length - 78) / 14) }
 {
-    let n = host::start::record_size_answer(registers, words as usize);
-    if n != 0 {
-        return refused(n);
-    }
-    Needs {
+    record_size_answer(start.registers, start.words as usize)?;
+    let budget = start.budget as u64;
+    Ok(Needs {
         number: 0,
-        memory: words as u64,
+        memory: start.words as u64,
         records: records_in(length),
-        budget: budget as u64,
-        lines: budget as u64 + 1,
-        pointers: 64 * (budget as u64),
+        budget,
+        lines: budget + 1,
+        pointers: 64 * budget,
+    })
+}
+
+#[tactic(auto, using(crate::proofs::SizingLaws::whole_image))]
+fn needs_found(image: &[u8]) -> Result<Needs, ImageError>
+    ensures { needs_by image_number result ≡ image_needs image.now }
+{
+    let mut set = empty_set();
+    let mut loading = nothing_loaded(Rules::Today);
+    let outcome = load(&mut loading, &mut set, image, true)?;
+    match outcome {
+        LoadOutcome::More(_used) => Err(ImageError::Load(LoadError::CutShort)),
+        LoadOutcome::Ready(start) => {
+            let needs = needs_of(start, image.len() as u64)?;
+            Ok(needs)
+        }
     }
 }
 
@@ -67,16 +90,8 @@ pub fn needs_of(registers: Registers, words: u32, budget: u32, length: u64) -> N
 pub fn needs_in(image: &[u8]) -> Needs
     ensures { as_needs result ≡ image_needs image.now }
 {
-    let mut set = loading::empty_set();
-    let x = image::load::load(loading::nothing_loaded(false), &mut set, image, true);
-    let loading = x.loading;
-    let outcome = x.outcome;
-    match outcome {
-        LoadOutcome::Refused(n) => refused(n),
-        LoadOutcome::More(_used) => refused(41),
-        LoadOutcome::Ready(budget) => {
-            let registers = loading.registers;
-            needs_of(registers, loading.words, budget, image.len() as u64)
-        }
+    match needs_found(image) {
+        Ok(needs) => needs,
+        Err(error) => refused(error),
     }
 }

@@ -1,5 +1,5 @@
 -- How an answer does what a program says: a fault, a completed step, and a step through a read, a write or a look. Assumes nothing.
-use Rattle.std.proofs.Common.{◌≡◌, ℕ, zero, suc, List, [], length, sym, refl, ap, ◌∙◌, subst, arith}
+use Rattle.std.proofs.Common.{◌≡◌, ℕ, List, [], length, Result, Ok, Err, sym, refl, ap, ◌∙◌, subst, arith}
 use Rattle.model.specs.Words as Words
 use Rattle.model.specs.Words.{Pointer, descriptor_in}
 use Rattle.model.specs.Registers.{Registers, machine, with_ipr, moved_by, advanced}
@@ -11,12 +11,12 @@ use Rattle.words.specs.declared.pointer.Pointer as Code
 use Rattle.state.specs.declared.Core.{Core}
 use Rattle.state.specs.declared.After.{After}
 use Rattle.state.specs.declared.End.TheVariants.{Completed}
-use Rattle.segments.specs.declared.translate.Translated.{Translated}
-use Rattle.segments.specs.declared.translate.Translated.TheVariants.{Refused, Passed}
-use Rattle.segments.specs.declared.access.Accessed.{Accessed}
-use Rattle.segments.specs.declared.access.Accessed.TheVariants as Accessed
+use Rattle.questions.specs.declared.fault.Fault.{Fault}
+use Rattle.questions.specs.Numbers.{fault_number, number_by}
+use Rattle.segments.specs.declared.access.ReadWord.{ReadWord}
 use Rattle.segments.specs.Translation.{as_dbr, looked, accessed, Writes, CodeRight}
 use Rattle.state.specs.View.{registers_with, machine_with, ended, Does, DoesWithAnyPrs, Completes, Finishes, faulted_after, worded_by, passed_by, DoesAnywhere, DoesAfterRead, DoesInAnyMemory, DoesAfterLook, DoesAfterWrite}
+use Rattle.questions.proofs.NumberLaws.{fault_from_one}
 use Rattle.segments.proofs.UseLaws.{looked_right, look_refused, look_passed, read_refused, read_passed, write_faults, write_completes}
 
 module _ (c : Core) (d : Descriptor) (ps : List Pointer) (m : List ℕ) (p : Program) (x : After) where
@@ -66,42 +66,40 @@ does_finish c d ps m f x ps_now h =
     does_stay c d ps m _ x ps_now m h.completed h.code_same h.ring_same (advanced (f (registers_with c ps))) h.registers_same refl
 
 -- A READ, answered: the program is what is left of it
-pub read_goes_on : (c : Core) (d : Descriptor) (m : List ℕ) (t : Pointer) (q : Question) (y : Accessed) → accessed (as_dbr c.dbr) m t q y → (g : Registers → Words.Descriptor → (word : ℕ) → Program) (x : After) (m_now : List ℕ) →
+pub read_goes_on : (c : Core) (d : Descriptor) (m : List ℕ) (t : Pointer) (q : Question) (y : Result ReadWord Fault) → accessed (as_dbr c.dbr) m t q y → (g : Registers → Words.Descriptor → (word : ℕ) → Program) (x : After) (m_now : List ℕ) →
     DoesWithAnyPrs c d m (λ r. worded_by y t (g r)) x m_now → DoesWithAnyPrs c d m (λ r. read q t (g r)) x m_now
 unfolding worded_by execute
 read_goes_on c d m t q y s g x m_now h = record { does = λ ps. does_as c d ps m _ x ps m_now _ (by_answer ps y s) (h.does ps) }
   where
-    by_answer : (ps : List Pointer) (y : Accessed) → accessed (as_dbr c.dbr) m t q y → execute (machine_with c ps m) (read q t (g (registers_with c ps))) ≡ execute (machine_with c ps m) (worded_by y t (g (registers_with c ps)))
-    by_answer ps (Accessed.Refused n) s = read_refused (machine_with c ps m) t q (Accessed.Refused n) s (g (registers_with c ps)) n refl
-    by_answer ps (Accessed.Word e w) s = read_passed (machine_with c ps m) t q (Accessed.Word e w) s (g (registers_with c ps)) e w refl
+    by_answer : (ps : List Pointer) (y : Result ReadWord Fault) → accessed (as_dbr c.dbr) m t q y → execute (machine_with c ps m) (read q t (g (registers_with c ps))) ≡ execute (machine_with c ps m) (worded_by y t (g (registers_with c ps)))
+    by_answer ps (Err e) s = read_refused (machine_with c ps m) t q (Err e) s (g (registers_with c ps)) e refl
+    by_answer ps (Ok w) s = read_passed (machine_with c ps m) t q (Ok w) s (g (registers_with c ps)) w refl
 
 -- where that leaves memory alone
-pub read_answered : (c : Core) (d : Descriptor) (m : List ℕ) (t : Pointer) (q : Question) (y : Accessed) → accessed (as_dbr c.dbr) m t q y → (g : Registers → Words.Descriptor → (word : ℕ) → Program) (x : After) →
+pub read_answered : (c : Core) (d : Descriptor) (m : List ℕ) (t : Pointer) (q : Question) (y : Result ReadWord Fault) → accessed (as_dbr c.dbr) m t q y → (g : Registers → Words.Descriptor → (word : ℕ) → Program) (x : After) →
     DoesAfterRead c d t y g x → DoesWithAnyPrs c d m (λ r. read q t (g r)) x m
 read_answered c d m t q y s g x h = read_goes_on c d m t q y s g x m (record { does = λ ps. h.does ps m })
 
 -- and each answer by itself
-module _ (c : Core) (d : Descriptor) (t : Pointer) (y : Accessed) (g : Registers → Words.Descriptor → (word : ℕ) → Program) (x : After) where
-  pub after_read_refused : (n : ℕ) (u : Code.Pointer) → y ≡ Accessed.Refused n → x ≡ faulted_after c d n u → as_pointer u ≡ t → DoesAfterRead c d t y g x
+module _ (c : Core) (d : Descriptor) (t : Pointer) (y : Result ReadWord Fault) (g : Registers → Words.Descriptor → (word : ℕ) → Program) (x : After) where
+  pub after_read_refused : (e : Fault) (u : Code.Pointer) → y ≡ Err e → x ≡ faulted_after c d (fault_number e) u → as_pointer u ≡ t → DoesAfterRead c d t y g x
   unfolding worded_by execute
-  after_read_refused n u e f h = record { does = λ ps m. rw e (does_fault c d ps m _ x n u f (ap (faults n) (sym h))) }
+  after_read_refused e u is f h = record { does = λ ps m. rw is (does_fault c d ps m _ x (fault_number e) u f (ap (faults (fault_number e)) (sym h))) }
 
-  pub after_read_goes_on : (e : Descriptor) (w : ℕ) → y ≡ Accessed.Word e w → DoesAnywhere c d (λ r. g r (descriptor_in e.0) w) x → DoesAfterRead c d t y g x
+  pub after_read_goes_on : (w : ReadWord) → y ≡ Ok w → DoesAnywhere c d (λ r. g r (descriptor_in w.descriptor.0) w.word) x → DoesAfterRead c d t y g x
   unfolding worded_by
-  after_read_goes_on e w f h = record { does = λ ps m. rw f (h.does ps m) }
-
-pub ruleset after_reads = (after_read_refused, after_read_goes_on)
+  after_read_goes_on w is h = record { does = λ ps m. rw is (h.does ps m) }
 
 -- A LOOK
-pub look_answered : (c : Core) (d : Descriptor) (ps : List Pointer) (m : List ℕ) (t : Pointer) (q : Question) (y : Translated) → looked (as_dbr c.dbr) m t q y → (g : Words.Descriptor → Program) (x : After) (ps_now : List Pointer) →
+pub look_answered : (c : Core) (d : Descriptor) (ps : List Pointer) (m : List ℕ) (t : Pointer) (q : Question) (y : Result Descriptor Fault) → looked (as_dbr c.dbr) m t q y → (g : Words.Descriptor → Program) (x : After) (ps_now : List Pointer) →
     DoesAfterLook c d ps q t y g x ps_now → Does c d ps m (look q t g) x ps_now m
 unfolding passed_by execute
 look_answered c d ps m t q y s g x ps_now h =
     does_as c d ps m _ x ps_now m (passed_by y t g) (by_answer y s) (record { ends = h.ends m; code_kept = h.code_kept (length m) (looked_right (as_dbr c.dbr) m t q y s) })
   where
-    by_answer : (y : Translated) → looked (as_dbr c.dbr) m t q y → execute (machine_with c ps m) (look q t g) ≡ execute (machine_with c ps m) (passed_by y t g)
-    by_answer (Refused n) s = look_refused (machine_with c ps m) t q (Refused n) s g n refl
-    by_answer (Passed e) s = look_passed (machine_with c ps m) t q (Passed e) s g e refl
+    by_answer : (y : Result Descriptor Fault) → looked (as_dbr c.dbr) m t q y → execute (machine_with c ps m) (look q t g) ≡ execute (machine_with c ps m) (passed_by y t g)
+    by_answer (Err e) s = look_refused (machine_with c ps m) t q (Err e) s g e refl
+    by_answer (Ok e) s = look_passed (machine_with c ps m) t q (Ok e) s g e refl
 
 -- A REST THAT USES NO MEMORY: a fault, or a completed step with a right descriptor
 module _ (c : Core) (d : Descriptor) (ps : List Pointer) (p : Program) (right : ℕ → Type 0) (x : After) where
@@ -114,30 +112,28 @@ module _ (c : Core) (d : Descriptor) (ps : List Pointer) (p : Program) (right : 
   unfolding execute machine
   rest_completes r ps_now e f g k = record { ends = λ m. ends_complete c d ps m p x ps_now m e r f (rw g); code_kept = λ size h _. k size h }
 
-pub after_look_refused : (c : Core) (d : Descriptor) (ps : List Pointer) (q : Question) (t : Pointer) (y : Translated) (g : Words.Descriptor → Program) (x : After) (n : ℕ) (u : Code.Pointer) →
-    y ≡ Refused n → x ≡ faulted_after c d n u → as_pointer u ≡ t → DoesAfterLook c d ps q t y g x ps
+pub after_look_refused : (c : Core) (d : Descriptor) (ps : List Pointer) (q : Question) (t : Pointer) (y : Result Descriptor Fault) (g : Words.Descriptor → Program) (x : After) (e : Fault) (u : Code.Pointer) →
+    y ≡ Err e → x ≡ faulted_after c d (fault_number e) u → as_pointer u ≡ t → DoesAfterLook c d ps q t y g x ps
 unfolding passed_by
-after_look_refused c d ps q t y g x n u e f h = rest_faults c d ps _ _ x n u f (rw (e, h))
+after_look_refused c d ps q t y g x e u is f h = rest_faults c d ps _ _ x (fault_number e) u f (rw (is, h))
 
 -- A WRITE, by its answer
-module _ (c : Core) (d : Descriptor) (u : Code.Pointer) (n : ℕ) (x : After) where
-  pub after_write_refused : (n ≡ 0 → ⊥) → x ≡ faulted_after c d n u → DoesAfterWrite c d u n x
-  after_write_refused z e = record { refused = λ _. e; written = λ k. absurd (z k) }
+module _ (c : Core) (d : Descriptor) (u : Code.Pointer) (y : Result (Unit {0}) Fault) (x : After) where
+  pub after_write_refused : (e : Fault) → y ≡ Err e → x ≡ faulted_after c d (fault_number e) u → DoesAfterWrite c d u (number_by fault_number y) x
+  after_write_refused e is f = rw is (record { refused = λ _. f; written = λ k. let h = fault_from_one e in absurd (omega arith) })
 
-  pub after_write_completes : n ≡ 0 → Completes c d x → DoesAfterWrite c d u n x
-  after_write_completes z h = record { refused = λ k. absurd (k z); written = λ _. h }
+  pub after_write_completes : (k : Unit {0}) → y ≡ Ok k → Completes c d x → DoesAfterWrite c d u (number_by fault_number y) x
+  after_write_completes k is h = rw is (record { refused = λ z. absurd (z refl); written = λ _. h })
 
-pub ruleset after_writes = (after_write_refused, after_write_completes)
-
-pub write_answered : (c : Core) (d : Descriptor) (m m_now : List ℕ) (t : Pointer) (q : Question) (v n : ℕ) → Writes (as_dbr c.dbr) m t q v n m_now → (u : Code.Pointer) (x : After) →
-    as_pointer u ≡ t → DoesAfterWrite c d u n x → DoesWithAnyPrs c d m (λ r. write q t v (advanced r)) x m_now
-write_answered c d m m_now t q v n s u x i h = record { does = λ ps. by_answer ps n s h }
+pub write_answered : (c : Core) (d : Descriptor) (m m_now : List ℕ) (t : Pointer) (q : Question) (v : ℕ) (y : Result (Unit {0}) Fault) → Writes (as_dbr c.dbr) m t q v (number_by fault_number y) m_now → (u : Code.Pointer) (x : After) →
+    as_pointer u ≡ t → DoesAfterWrite c d u (number_by fault_number y) x → DoesWithAnyPrs c d m (λ r. write q t v (advanced r)) x m_now
+write_answered c d m m_now t q v y s u x i h = record { does = λ ps. by_answer ps y s h }
   where
-    by_answer : (ps : List Pointer) (n : ℕ) → Writes (as_dbr c.dbr) m t q v n m_now → DoesAfterWrite c d u n x → Does c d ps m (write q t v (advanced (registers_with c ps))) x ps m_now
-    by_answer ps zero s h =
+    by_answer : (ps : List Pointer) (y : Result (Unit {0}) Fault) → Writes (as_dbr c.dbr) m t q v (number_by fault_number y) m_now → DoesAfterWrite c d u (number_by fault_number y) x → Does c d ps m (write q t v (advanced (registers_with c ps))) x ps m_now
+    by_answer ps (Ok k) s h =
         does_advance c c d ps m m_now _ x (registers_with c ps) refl (h.written refl) refl
-        (write_completes (machine_with c ps m) t q v 0 m_now s (advanced (registers_with c ps)) refl)
-    by_answer ps (suc n) s h =
-        let z : suc n ≡ 0 → ⊥ = λ e. absurd (omega arith) in
+        (write_completes (machine_with c ps m) t q v m_now (advanced (registers_with c ps)) s)
+    by_answer ps (Err e) s h =
+        let z : fault_number e ≡ 0 → ⊥ = λ k. let j = fault_from_one e in absurd (omega arith) in
         subst (Does c d ps m (write q t v (advanced (registers_with c ps))) x ps) (sym (s.kept z))
-        (does_fault c d ps m _ x (suc n) u (h.refused z) (write_faults (machine_with c ps m) t q v (suc n) m_now s (advanced (registers_with c ps)) z ∙ ap (faults (suc n)) (sym i)))
+        (does_fault c d ps m _ x (fault_number e) u (h.refused z) (write_faults (machine_with c ps m) t q v m_now (advanced (registers_with c ps)) e s ∙ ap (faults (fault_number e)) (sym i)))

@@ -1,5 +1,5 @@
 -- The PRs as numbers: one read is one pointer's, and three stores are one set of the pointers. Assumes nothing.
-use Rattle.std.proofs.Common.{◌≡◌, ℕ, zero, suc, ◌+◌, ◌*◌, ◌%◌, ◌<◌, ◌≤◌, Bool, true, false, cond, eqb, List, [], ◌∷◌, length, get_or, drop, set, sym, refl, ap, ◌∙◌, le_of_suc-le-suc, not-suc-le-zero, arith, get_or-set_other, get_or-set_same, eq-eqb, ne_eqb}
+use Rattle.std.proofs.Common.{◌≡◌, ℕ, zero, suc, ◌+◌, ◌*◌, ◌%◌, ◌<◌, ◌≤◌, Bool, true, false, cond, eqb, List, [], ◌∷◌, length, get_or, drop, set, sym, refl, ap, ◌∙◌, le_of_suc-le-suc, not-suc-le-zero, arith, get_or-set_other, get_or-set_same}
 use Rattle.model.specs.Words.{Pointer}
 use Rattle.model.specs.Registers.{zero_pointer}
 use Rattle.model.specs.Step.{stack_base}
@@ -54,12 +54,6 @@ unfolding as_pointers
 set_pr_law prs k r s w h l g = stored 8 k prs r s w h (omega arith) g
 
 -- THE STACK BASE
-pub place_stays : (b n : ℕ) → n ≡ b → ◌≡◌ {A = ℕ} 19 (cond (eqb n b) 19 21)
-place_stays b n e = ap (λ s. cond s 19 21) (sym (eq-eqb n b e))
-
-pub place_falls : (b n : ℕ) → (n ≡ b → ⊥) → ◌≡◌ {A = ℕ} 21 (cond (eqb n b) 19 21)
-place_falls b n h = ap (λ s. cond s 19 21) (sym (ne_eqb n b h))
-
 pub stack_base_law : (prs : List ℕ) (b n i v : ℕ) → length prs ≡ 24 → n ≤ 7 → i ≡ cond (eqb n b) 19 21 → v ≡ get_or (set prs 21 n) i 0 →
     as_pointers (set (set (set prs 21 n) 22 v) 23 0) ≡ set (as_pointers prs) 7 (stack_base b n (pr_of prs 6))
 unfolding stack_base

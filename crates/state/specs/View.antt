@@ -1,5 +1,5 @@
 -- The code's state as the model's machine, and what a step's answer says. Assumes nothing: these are definitions.
-use Rattle.std.specs.Prelude.{◌≡◌, ℕ, zero, suc, ◌+◌, ◌%◌, ◌≤◌, List, [], ◌∷◌, length, drop, ◌≢◌, slice_index, slice_index_or}
+use Rattle.std.specs.Prelude.{◌≡◌, ℕ, zero, suc, ◌+◌, ◌%◌, ◌≤◌, List, [], ◌∷◌, length, drop, ◌≢◌, slice_index, slice_index_or, Result, Ok, Err}
 use Rattle.model.specs.Words as Words
 use Rattle.model.specs.Registers as Registers
 use Rattle.model.specs.Questions.{Question}
@@ -13,10 +13,9 @@ use Rattle.state.specs.declared.End.{End}
 use Rattle.state.specs.declared.End.TheVariants.{Completed, Halted, Faulted}
 use Rattle.state.specs.declared.After.{After}
 use Rattle.segments.specs.Translation.{as_dbr, SegmentRight, CodeRight}
-use Rattle.segments.specs.declared.translate.Translated.{Translated}
-use Rattle.segments.specs.declared.translate.Translated.TheVariants.{Refused, Passed}
-use Rattle.segments.specs.declared.access.Accessed.{Accessed}
-use Rattle.segments.specs.declared.access.Accessed.TheVariants as Accessed
+use Rattle.questions.specs.declared.fault.Fault.{Fault}
+use Rattle.questions.specs.Numbers.{fault_number}
+use Rattle.segments.specs.declared.access.ReadWord.{ReadWord}
 
 -- THE PRS are lent as 24 numbers: the lower byte of the first is RING, SEGNO and WORDNO follow
 unfoldable pub pointers_in : (count : ℕ) → (numbers : List ℕ) → List Words.Pointer
@@ -90,20 +89,20 @@ abbrev pub faulted_after : Core → Descriptor → (number : ℕ) → Pointer �
 faulted_after c d n t = record { core = c; code = d; end = Faulted n t }
 
 -- THE REST OF A PROGRAM, once its read, its look or its write is answered, wherever the descriptor was found (02, L7)
-unfoldable pub worded_by : Accessed → Words.Pointer → (Words.Descriptor → (word : ℕ) → Program) → Program
-worded_by (Accessed.Refused n) t f = fail n t
-worded_by (Accessed.Word d w) t f = f (Words.descriptor_in d.0) w
+unfoldable pub worded_by : Result ReadWord Fault → Words.Pointer → (Words.Descriptor → (word : ℕ) → Program) → Program
+worded_by (Err e) t f = fail (fault_number e) t
+worded_by (Ok w) t f = f (Words.descriptor_in w.descriptor.0) w.word
 
-unfoldable pub passed_by : Translated → Words.Pointer → (Words.Descriptor → Program) → Program
-passed_by (Refused n) t f = fail n t
-passed_by (Passed d) t f = f (Words.descriptor_in d.0)
+unfoldable pub passed_by : Result Descriptor Fault → Words.Pointer → (Words.Descriptor → Program) → Program
+passed_by (Err e) t f = fail (fault_number e) t
+passed_by (Ok d) t f = f (Words.descriptor_in d.0)
 
 -- the answer to it with any PRs and in any memory, which it leaves alone
 pub record DoesAnywhere (c : Core) (code : Descriptor) (p : Registers.Registers → Program) (x : After) : Type 0 where
   pub does : (ps : List Words.Pointer) (m : List ℕ) → Does c code ps m (p (registers_with c ps)) x ps m
 
 -- after a read
-abbrev pub DoesAfterRead : Core → Descriptor → Words.Pointer → Accessed → (Registers.Registers → Words.Descriptor → (word : ℕ) → Program) → After → Type 0
+abbrev pub DoesAfterRead : Core → Descriptor → Words.Pointer → Result ReadWord Fault → (Registers.Registers → Words.Descriptor → (word : ℕ) → Program) → After → Type 0
 DoesAfterRead c code t y f x = DoesAnywhere c code (λ r. worded_by y t (f r)) x
 
 -- the answer to a rest that uses no memory, in any; a code descriptor that was right is right again where `right` holds of the memory's size
@@ -112,7 +111,7 @@ pub record DoesInAnyMemory (c : Core) (code : Descriptor) (ps : List Words.Point
   pub code_kept : (size : ℕ) → right size → CodeRight code.0 c.ipr.ring size → CodeRight x.code.0 x.core.ipr.ring size
 
 -- after a look by q: where the descriptor has passed its questions
-abbrev pub DoesAfterLook : Core → Descriptor → (prs : List Words.Pointer) → Question → Words.Pointer → Translated → (Words.Descriptor → Program) → After → (prs_now : List Words.Pointer) → Type 0
+abbrev pub DoesAfterLook : Core → Descriptor → (prs : List Words.Pointer) → Question → Words.Pointer → Result Descriptor Fault → (Words.Descriptor → Program) → After → (prs_now : List Words.Pointer) → Type 0
 DoesAfterLook c code ps q t y f x ps_now = DoesInAnyMemory c code ps (passed_by y t f) (SegmentRight y q) x ps_now
 
 -- after a write that ends a step: a no is the fault's number

@@ -1,12 +1,14 @@
 // What a step works on by value, and what it and a run answer; the PRs in place.
 #![tactic(auto)]
 
-ghost use Rattle.std.specs.Prelude.{◌≡◌, max};
+ghost use Rattle.std.specs.Prelude.{◌≡◌};
 ghost use Rattle.model.specs.Registers as Registers;
 ghost use Rattle.words.specs.View.{as_pointer};
 ghost use Rattle.segments.specs.Translation.{as_dbr};
+ghost use Rattle.questions.specs.Numbers.{fault_number};
 ghost use Rattle.state.specs.View.{Becomes, Completes, faulted_after};
 
+use questions::fault::Fault;
 use segments::translate::Dbr;
 use words::descriptor::Descriptor;
 use words::pointer::{Pointer, WordNumber};
@@ -24,7 +26,7 @@ pub struct Core {
 
 // The switch, the save segment and the handler segment; no step changes them.
 #[repr(C)]
-#[derive(Clone, Copy)]
+#[derive(Clone, Copy, Default)]
 pub struct Delivery {
     pub switch: u16,
     pub save: u16,
@@ -48,44 +50,44 @@ pub struct After {
 }
 
 // A pointer some words on; word numbers go round from 65,535 to 0.
+#[tactic(auto, unfolding(model::specs::Registers::moved_by))]
 pub fn moved(p: Pointer, words: u16) -> Pointer
     ensures { as_pointer result ≡ Registers.moved_by words (as_pointer p) }
 {
-    let segment = p.segment;
+    let word = ((p.word.0 % 65536) as u16).wrapping_add(words);
     Pointer {
-        ring: p.ring,
-        segment,
-        word: WordNumber(std::num::wrapping_add_u16((p.word.0 % 65536) as u16, words) as u64),
+        word: WordNumber(u64::from(word)),
+        ..p
     }
 }
 
-pub fn with_a(mut core: Core, a: u64) -> Core
+#[tactic(auto, unfolding(model::specs::Registers::with_a))]
+pub fn with_a(core: Core, a: u64) -> Core
     ensures { Becomes core (Registers.with_a a) result }
 {
-    core.a = a;
-    core
+    Core { a, ..core }
 }
 
-pub fn with_dbr(mut core: Core, dbr: Dbr) -> Core
+#[tactic(auto, unfolding(model::specs::Registers::with_dbr))]
+pub fn with_dbr(core: Core, dbr: Dbr) -> Core
     ensures { Becomes core (Registers.with_dbr (as_dbr dbr)) result }
 {
-    core.dbr = dbr;
-    core
+    Core { dbr, ..core }
 }
 
-pub fn with_ipr(mut core: Core, p: Pointer) -> Core
-    ensures { Becomes core (Registers.with_ipr (as_pointer p)) result }
+#[tactic(auto, unfolding(model::specs::Registers::with_ipr))]
+pub fn with_ipr(core: Core, ipr: Pointer) -> Core
+    ensures { Becomes core (Registers.with_ipr (as_pointer ipr)) result }
 {
-    core.ipr = p;
-    core
+    Core { ipr, ..core }
 }
 
 // IPR goes on to the next instruction.
+#[tactic(auto, using(crate::proofs::StateLaws::advanced_law))]
 pub fn advanced(core: Core) -> Core
     ensures { Becomes core Registers.advanced result }
 {
-    let p = core.ipr;
-    with_ipr(core, moved(p, 1))
+    with_ipr(core, moved(core.ipr, 1))
 }
 
 // A step that is complete in this segment, IPR moved on.
@@ -100,18 +102,23 @@ pub fn completed(core: Core, code: Descriptor) -> After
 }
 
 // A fault leaves the core as it was.
-pub fn faulted(core: Core, code: Descriptor, n: u8, t: Pointer) -> After
-    ensures { result ≡ faulted_after core code n t }
+pub fn faulted(core: Core, code: Descriptor, fault: Fault, t: Pointer) -> After
+    ensures { result ≡ faulted_after core code (fault_number fault) t }
 {
     After {
         core,
         code,
-        end: End::Faulted(n, t),
+        end: End::Faulted(fault.number(), t),
     }
 }
 
-pub fn larger(a: u64, b: u64) -> u64
-    ensures { result ≡ max a b }
+// A step that stops before opcode 42, which the loop says as a fault numbered 0 (docs/DECISIONS.md, L4).
+pub fn stopped(core: Core, code: Descriptor, t: Pointer) -> After
+    ensures { result ≡ faulted_after core code 0 t }
 {
-    if a <= b { b } else { a }
+    After {
+        core,
+        code,
+        end: End::Faulted(0, t),
+    }
 }

@@ -6,29 +6,15 @@ ghost use Rattle.state.specs.View.{as_pointers, pr_of};
 
 use words::pointer::{Pointer, SegmentNumber, WordNumber};
 
-// There are 24 numbers: an array's type says so of its list only where it is lent as a slice.
-fn size(prs: &[u16; 24]) -> usize
-    ensures { (result ≡ 24) × (length prs.now ≡ 24) }
-{
-    let numbers: &[u16] = prs;
-    numbers.len()
-}
-
-fn wide(n: u16) -> u64
-    ensures { (result ≡ n) × (result ≤ 65535) }
-{
-    n as u64
-}
-
 pub fn pr(prs: &[u16; 24], number: usize) -> Pointer
     requires { number < 8 }
     ensures { (as_pointer result ≡ pr_of prs.now number) × (result.ring ≤ 255) × (result.segment.0 ≤ 65535) × (result.word.0 ≤ 65535) }
 {
     let i = 3 * number;
     Pointer {
-        ring: wide(prs[i]) % 256,
-        segment: SegmentNumber(wide(prs[i + 1])),
-        word: WordNumber(wide(prs[i + 2])),
+        ring: u64::from(prs[i]) % 256,
+        segment: SegmentNumber(u64::from(prs[i + 1])),
+        word: WordNumber(u64::from(prs[i + 2])),
     }
 }
 
@@ -36,7 +22,6 @@ pub fn set_pr(prs: &mut [u16; 24], number: usize, p: Pointer)
     requires { (number < 8) × (p.ring ≤ 255) × (p.segment.0 ≤ 65535) × (p.word.0 ≤ 65535) }
     ensures { as_pointers prs.new ≡ slice_set (as_pointers prs.old) number (as_pointer p) }
 {
-    let _count = size(prs);
     let i = 3 * number;
     prs[i] = p.ring as u16;
     prs[i + 1] = p.segment.0 as u16;
@@ -47,10 +32,7 @@ pub fn set_pr(prs: &mut [u16; 24], number: usize, p: Pointer)
 fn stack_place(before: u64, ring: u64) -> usize
     ensures { (result ≡ (if nat_eq ring before then 19 else 21)) × (result < 24) }
 {
-    if ring == before {
-        return 19;
-    }
-    21
+    if ring == before { 19 } else { 21 }
 }
 
 // PR7 after a call. Its segment's number is copied from its place: a choice between two numbers would take one machine register more in
@@ -59,7 +41,6 @@ pub fn set_stack_base(prs: &mut [u16; 24], before: u64, ring: u64)
     requires { ring ≤ 7 }
     ensures { as_pointers prs.new ≡ slice_set (as_pointers prs.old) 7 (stack_base before ring (pr_of prs.old 6)) }
 {
-    let _count = size(prs);
     prs[21] = ring as u16;
     prs[22] = prs[stack_place(before, ring)];
     prs[23] = 0;

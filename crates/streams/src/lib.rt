@@ -1,69 +1,66 @@
 // The standard streams of a program: input in pieces, and a text or a refusal as output.
 #![tactic(auto)]
 
-ghost use Rattle.std.specs.Prelude.{◌≤◌, length};
+ghost use Rattle.std.specs.Prelude.{◌≤◌, length, IfOk};
 
 use state::reply::Reply;
 use std::fmt::Display;
 use std::io::Read;
 
-// What one read gave: the bytes that the buffer holds now, and whether it was the last.
+// What one read gave: how many bytes the buffer holds now, and whether the input has ended.
 #[derive(Clone, Copy)]
 pub struct Piece {
     pub size: usize,
     pub has_ended: bool,
-    pub has_failed: bool,
 }
+
+// Standard input can't be read, which has been told on standard error.
+#[derive(Clone, Copy, PartialEq, Eq)]
+pub struct InputFailed;
 
 // Says on standard error what is wrong with standard input. Where that can't be written either, nobody is told.
 pub fn fail(rt: &impl Eprint, why: impl Display + Drop) {
     let _told = eprintln!(rt; "standard input: {why}");
 }
 
-// Reads on after the bytes that the buffer keeps. No room to read into is a failure, and not the end. A failure is told on standard error.
-pub fn read_piece(rt: &(impl Input + Eprint), buffer: &mut [u8], kept: usize) -> Piece
+// Reads on after the bytes that the buffer keeps. No room to read into is a failure, and not the end.
+pub fn read_piece(
+    rt: &(impl Input + Eprint),
+    buffer: &mut [u8],
+    kept: usize,
+) -> Result<Piece, InputFailed>
     requires { kept ≤ length buffer.old }
-    ensures { (kept ≤ result.size) × (result.size ≤ length buffer.new) }
+    ensures { IfOk result (λ piece. (kept ≤ piece.size) × (piece.size ≤ length buffer.new)) }
 {
-    let has_room = kept < buffer.len();
-    if !has_room {
+    if kept == buffer.len() {
         fail(rt, "there is no room to read into");
+        return Err(InputFailed);
     }
-    let got = rt.reader().read(&mut buffer[kept..]);
-    match got {
-        Ok(count) => Piece {
+    match rt.reader().read(&mut buffer[kept..]) {
+        Ok(count) => Ok(Piece {
             size: kept + count,
-            has_ended: has_room & (count == 0),
-            has_failed: !has_room,
-        },
+            has_ended: count == 0,
+        }),
         Err(error) => {
             fail(rt, error);
-            Piece {
-                size: kept,
-                has_ended: false,
-                has_failed: true,
-            }
+            Err(InputFailed)
         }
     }
 }
 
-// Reads until the buffer is full or the input ends. Each piece has a byte at least, or is the last.
-pub fn read_whole(rt: &(impl Input + Eprint), bytes: &mut [u8]) -> Piece
-    ensures { result.size ≤ length bytes.new }
+// Reads until the buffer is full or the input ends, and says how many bytes it holds then. Each piece has a byte at least, or is the last.
+pub fn read_whole(rt: &(impl Input + Eprint), bytes: &mut [u8]) -> Result<usize, InputFailed>
+    ensures { IfOk result (λ size. size ≤ length bytes.new) }
 {
-    let mut x = Piece {
-        size: 0,
-        has_ended: false,
-        has_failed: false,
-    };
-    while x.size < bytes.len() {
-        let before = x.size;
-        x = read_piece(rt, bytes, before);
-        if x.size == before {
-            return x;
+    let mut size = 0;
+    while size < bytes.len() {
+        let piece = read_piece(rt, bytes, size)?;
+        if piece.size == size {
+            return Ok(size);
         }
+        size = piece.size;
     }
-    x
+    Ok(size)
 }
 
 // Whether all of it was written.

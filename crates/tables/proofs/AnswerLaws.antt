@@ -1,11 +1,6 @@
 -- The first question with a no, and what a yes to all lets be written. Assumes nothing.
-use mathlib.Core.Path.{◌≡◌, refl, sym, ap, ◌∙◌}
-use mathlib.Core.Bool.{Bool, true, false, ◌&&◌, not}
-use mathlib.Core.List.{List}
-use Prim.Native.Nat.{ℕ, ◌+◌, ◌≤◌, ◌<◌}
-use lib.Dec.{leb}
-use lib.ListN.{length}
-use borrow.Author.Tests.{not-true, not-false, le-leb, lt-leb, eq-eqb}
+use Rattle.std.proofs.Common.{◌≡◌, ◌≢◌, refl, sym, ◌∙◌, true, false, List, ℕ, ◌+◌, ◌≤◌, ◌<◌, length}
+use borrow.Author.Tests.{le-leb, lt-leb}
 use Rattle.model.specs.Questions.{ask, all, memory_fits, dbr_fits}
 use Rattle.model.specs.Brackets.{Row, row_fits, table_fits, segments_questions, table_questions, with_rows, set_brackets}
 use Rattle.formats.proofs.BracketLaws.{accepted, refused_same, accepted_written}
@@ -15,23 +10,28 @@ use Rattle.tables.specs.View.{base}
 module _ (n a l : ℕ) (rows : List Row) where
   pub is_1 : 16777216 < n → 1 ≡ table_questions n (base a l) rows
   unfolding table_questions ask memory_fits
-  is_1 h = rw (lt-leb n 16777216 h)
+  is_1 h = rw (lt-leb n 16777216 h) refl
 
   module _ (memory : n ≤ 16777216) where
-    pub is_4 : not (leb l 4096 && leb (a + l) n) ≡ true → 4 ≡ table_questions n (base a l) rows
+    pub is_4_by_length : 4096 < l → 4 ≡ table_questions n (base a l) rows
     unfolding table_questions ask memory_fits dbr_fits
-    is_4 h = rw (le-leb n 16777216 memory, not-true (leb l 4096 && leb (a + l) n) h)
+    is_4_by_length h = rw (le-leb n 16777216 memory, lt-leb l 4096 h) refl
 
-    module _ (dbr : not (leb l 4096 && leb (a + l) n) ≡ false) {b : Bool} (e : b ≡ table_fits l rows) where
-      pub is_53 : not b ≡ true → 53 ≡ table_questions n (base a l) rows
+    module _ (count : l ≤ 4096) where
+      pub is_4 : n < a + l → 4 ≡ table_questions n (base a l) rows
       unfolding table_questions ask memory_fits dbr_fits
-      is_53 h = rw (le-leb n 16777216 memory, not-false (leb l 4096 && leb (a + l) n) dbr, sym e ∙ not-true b h)
+      is_4 h = rw (le-leb n 16777216 memory, le-leb l 4096 count, lt-leb (a + l) n h) refl
 
-      pub is_by_segment : (k : ℕ) → not b ≡ false → k ≡ segments_questions l 0 rows → k ≡ table_questions n (base a l) rows
-      unfolding table_questions ask memory_fits dbr_fits
-      is_by_segment k h q = rw (le-leb n 16777216 memory, not-false (leb l 4096 && leb (a + l) n) dbr, sym e ∙ not-false b h) q
+      module _ (within : a + l ≤ n) where
+        pub is_53 : false ≡ table_fits l rows → 53 ≡ table_questions n (base a l) rows
+        unfolding table_questions ask memory_fits dbr_fits
+        is_53 e = rw (le-leb n 16777216 memory, le-leb l 4096 count, le-leb (a + l) n within, ← e) refl
 
-pub ruleset answer_laws = (is_1, is_4, is_53, is_by_segment)
+        pub is_by_segment : (k : ℕ) → true ≡ table_fits l rows → k ≡ segments_questions l 0 rows → k ≡ table_questions n (base a l) rows
+        unfolding table_questions ask memory_fits dbr_fits
+        is_by_segment k e q = rw (le-leb n 16777216 memory, le-leb l 4096 count, le-leb (a + l) n within, ← e) q
+
+pub ruleset answer_laws = (is_1, is_4_by_length, is_4, is_53, is_by_segment)
 
 -- REFUSED: nothing is written. Accepted: the rows fit, and so do the words
 module _ (n a l : ℕ) (rows : List Row) (m : List ℕ) (e : n ≡ table_questions (length m) (base a l) rows) where
@@ -39,7 +39,7 @@ module _ (n a l : ℕ) (rows : List Row) (m : List ℕ) (e : n ≡ table_questio
   unfolding set_brackets
   answer_given = e
 
-  pub refused_kept : (n ≡ 0 → ⊥) → m ≡ (set_brackets m (base a l) rows).memory
+  pub refused_kept : n ≢ 0 → m ≡ (set_brackets m (base a l) rows).memory
   refused_kept d = sym (refused_same m (base a l) rows (λ z. d (e ∙ z)))
 
   module _ (z : n ≡ 0) where

@@ -1,43 +1,49 @@
--- Lent rows one by one: the row at hand in front of those still to come. Assumes nothing.
-use mathlib.Core.Path.{◌≡◌, refl, sym, ap, ◌∙◌}
-use mathlib.Core.Bool.{Bool, true, false, ◌&&◌, cond}
-use mathlib.Core.List.{List, [], ◌∷◌}
-use Prim.Native.Nat.{ℕ, ◌+◌, ◌≤◌, ◌<◌}
-use native.Mathlib.Numerals.{add-one}
-use lib.ListN.{length, get_or, drop, drop_of_length-le}
-use lib.Seq.{drop-cons}
+-- Lent rows as the model's: a test of all, and the first that a segment is in. Assumes nothing.
+use Rattle.std.proofs.Common.{◌≡◌, refl, ap, Bool, true, false, ◌&&◌, List, [], ◌∷◌, ℕ, suc, ◌+◌, ◌≤◌, ◌<◌, arith, add-one, length, get_or, drop}
+use Rattle.std.proofs.lemmas.Bool.{cases_Bool}
+use Rattle.std.specs.List.{list_all, position, position_or_len}
+use Rattle.std.specs.Prelude.{Option}
+use mathlib.Core.Logic.{⊎_elim}
+use borrow.Author.Tests.{ltb-true, ltb-false}
 use Rattle.model.specs.Questions.{all}
-use Rattle.model.specs.Brackets.{Row, in_row, rows_of}
-use Rattle.model.proofs.BranchLaws.{and_left, and_right}
+use Rattle.model.specs.Brackets as Brackets
+use Rattle.model.proofs.BranchLaws.{cond_holds}
+use Rattle.tables.specs.declared.row.Row.{Row}
 use Rattle.tables.specs.View.{as_row, as_rows}
+use Rattle.tables.specs.Next.{NextRow}
 
-module _ (i : ℕ) (xs : List (List ℕ)) where
-  pub rows_in_front : i < length xs → as_rows (drop i xs) ≡ as_row (get_or xs i []) ∷ as_rows (drop (i + 1) xs)
-  rows_in_front h = ap as_rows (drop-cons xs i [] h ∙ ap (λ k. get_or xs i [] ∷ drop k xs) (sym (add-one i)))
+-- A TEST OF ALL
+pub all_as : (f : Brackets.Row → Bool) (xs : List Row) → list_all (λ x. f (as_row x)) xs ≡ all f (as_rows xs)
+unfolding all
+all_as f [] = refl
+all_as f (x ∷ xs) = ap (λ b. f (as_row x) && b) (all_as f xs)
 
-  pub no_rows_left : length xs ≤ i → as_rows (drop i xs) ≡ []
-  no_rows_left h = ap as_rows (drop_of_length-le xs h)
+-- THE FIRST ROW that a segment is in, by its place
+module _ (s : ℕ) where
+  no_row : (xs : List Row) → length xs ≤ position_or_len (λ x. Brackets.in_row s (as_row x)) xs → Brackets.rows_of s (as_rows xs) ≡ []
+  unfolding Brackets.rows_of
+  no_row [] e = refl
+  no_row (x ∷ xs) e =
+      ⊎_elim
+      (λ (t : Brackets.in_row s (as_row x) ≡ true). absurd (let z : suc (length xs) ≤ 0 = rw t at e in omega arith))
+      (λ (f : Brackets.in_row s (as_row x) ≡ false). rw f (no_row xs (let z : suc (length xs) ≤ 1 + (position_or_len (λ x. Brackets.in_row s (as_row x)) xs) = rw f at e in omega arith)))
+      (cases_Bool (Brackets.in_row s (as_row x)))
 
-  -- the rows of a segment, by whether it is in the row at hand
-  module _ (s : ℕ) (h : i < length xs) where
-    pub row_is_its : in_row s (as_row (get_or xs i [])) ≡ true → rows_of s (as_rows (drop i xs)) ≡ as_row (get_or xs i []) ∷ rows_of s (as_rows (drop (i + 1) xs))
-    unfolding rows_of
-    row_is_its e = ap (rows_of s) (rows_in_front h) ∙ ap (λ b. cond b (as_row (get_or xs i []) ∷ rows_of s (as_rows (drop (i + 1) xs))) (rows_of s (as_rows (drop (i + 1) xs)))) e
+  row_at : (xs : List Row) (d : Row) → position_or_len (λ x. Brackets.in_row s (as_row x)) xs < length xs →
+      Brackets.rows_of s (as_rows xs) ≡ as_row (get_or xs (position_or_len (λ x. Brackets.in_row s (as_row x)) xs) d) ∷ Brackets.rows_of s (as_rows (drop (suc (position_or_len (λ x. Brackets.in_row s (as_row x)) xs)) xs))
+  unfolding Brackets.rows_of
+  row_at [] d h = absurd (omega arith)
+  row_at (x ∷ xs) d h =
+      ⊎_elim
+      (λ (t : Brackets.in_row s (as_row x) ≡ true). rw t refl)
+      (λ (f : Brackets.in_row s (as_row x) ≡ false).
+      let e : 1 + position_or_len (λ x. Brackets.in_row s (as_row x)) xs ≡ suc (position_or_len (λ x. Brackets.in_row s (as_row x)) xs) = omega arith in
+      rw (f, e) (row_at xs d (let z : 1 + position_or_len (λ x. Brackets.in_row s (as_row x)) xs < suc (length xs) = rw f at h in omega arith)))
+      (cases_Bool (Brackets.in_row s (as_row x)))
 
-    pub row_is_not_its : in_row s (as_row (get_or xs i [])) ≡ false → rows_of s (as_rows (drop i xs)) ≡ rows_of s (as_rows (drop (i + 1) xs))
-    unfolding rows_of
-    row_is_not_its e = ap (rows_of s) (rows_in_front h) ∙ ap (λ b. cond b (as_row (get_or xs i []) ∷ rows_of s (as_rows (drop (i + 1) xs))) (rows_of s (as_rows (drop (i + 1) xs)))) e
-
-  -- a test of all rows
-  module _ (f : Row → Bool) (h : i < length xs) where
-    pub all_in_front : all f (as_rows (drop i xs)) ≡ (f (as_row (get_or xs i [])) && all f (as_rows (drop (i + 1) xs)))
-    unfolding all
-    all_in_front = ap (all f) (rows_in_front h)
-
-  pub all_of_none : (f : Row → Bool) → length xs ≤ i → all f (as_rows (drop i xs)) ≡ true
-  unfolding all
-  all_of_none f h = ap (all f) (no_rows_left h)
-
-  pub none_of_none : (s : ℕ) → length xs ≤ i → rows_of s (as_rows (drop i xs)) ≡ []
-  unfolding rows_of
-  none_of_none s h = ap (rows_of s) (no_rows_left h)
+  pub first_row : (xs : List Row) (place : Option ℕ) → place ≡ position (λ x. Brackets.in_row s (as_row x)) xs → NextRow s xs place
+  first_row xs place e =
+      rw e
+      (cond_holds (NextRow s xs) _
+      (λ t. record { within = ltb-true _ _ t; its_rows = λ d. rw (add-one (position_or_len (λ x. Brackets.in_row s (as_row x)) xs)) (row_at xs d (ltb-true _ _ t)) })
+      (λ f. no_row xs (ltb-false _ _ f)))

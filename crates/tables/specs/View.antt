@@ -1,26 +1,23 @@
--- A lent row as the model's: in C two numbers of 16 bits and six bytes, here five numbers of 16 bits, of two bytes the first the lower one.
--- Assumes nothing: these are definitions.
-use Rattle.std.specs.Prelude.{List, map, ℕ, ◌/◌, ◌%◌, get_or}
+-- A lent row as the model's, and DBR by its two parts. Assumes nothing: these are definitions.
+use Rattle.std.specs.Prelude.{List, map, ℕ}
 use Rattle.model.specs.Registers.{Dbr}
-use Rattle.model.specs.Brackets.{Row}
+use Rattle.model.specs.Brackets as Brackets
+use Rattle.tables.specs.declared.row.Row.{Row}
 
-abbrev pub number : (row : List ℕ) → (place : ℕ) → ℕ
-number x k = get_or x k 0
-
-unfoldable pub as_row : List ℕ → Row
+unfoldable pub as_row : Row → Brackets.Row
 as_row x =
     record {
-      first = number x 0;
-      last = number x 1;
-      r1 = number x 2 % 256;
-      r2 = number x 2 / 256;
-      r3 = number x 3 % 256;
-      read = number x 3 / 256;
-      write = number x 4 % 256;
-      execute = number x 4 / 256;
+      first = x.first;
+      last = x.last;
+      r1 = x.r1;
+      r2 = x.r2;
+      r3 = x.r3;
+      read = x.read;
+      write = x.write;
+      execute = x.execute;
     }
 
-abbrev pub as_rows : List (List ℕ) → List Row
+abbrev pub as_rows : List Row → List Brackets.Row
 as_rows xs = map as_row xs
 
 abbrev pub base : (address length : ℕ) → Dbr

@@ -1,84 +1,49 @@
 // 53, 54 and 55 of a table.
-ghost use Rattle.std.specs.Prelude.{◌≡◌, ◌≤◌, length};
+ghost use Rattle.std.specs.Prelude.{◌≡◌};
 ghost use Rattle.model.specs.Brackets as Brackets;
-ghost use Rattle.tables.specs.View.{as_row, as_rows};
 ghost use Rattle.tables.specs.Next.{NextRow};
+ghost use Rattle.tables.specs.Numbers.{answer_number};
+ghost use Rattle.tables.specs.View.{as_rows};
 
-// 53 of one row.
-fn is_row_fit(row: [u16; 5], segments: u16) -> bool
-    ensures { result ≡ Brackets.row_fits segments (as_row row) }
-{
-    (row[0] <= row[1])
-        & ((row[1] < segments)
-            & ((row[2] % 256 <= row[2] / 256)
-                & ((row[2] / 256 <= row[3] % 256) & (row[3] % 256 <= 7))))
-}
+use crate::error::TableError;
+use crate::row::Row;
+
+const MOST_ROWS: usize = 32;
 
 // 53.
-pub fn is_table_fit(rows: &[[u16; 5]], segments: u16) -> bool
+pub(crate) fn is_table_fit(rows: &[Row], segments: u16) -> bool
     ensures { result ≡ Brackets.table_fits segments (as_rows rows.now) }
 {
-    if rows.len() > 32 {
-        return false;
-    }
-    let mut i = 0;
-    while i < rows.len() {
-        if !is_row_fit(rows[i], segments) {
-            return false;
-        }
-        i += 1;
-    }
-    true
+    rows.len() <= MOST_ROWS && rows.iter().all(|row| row.is_fit(segments))
 }
 
-// Is a segment in a row?
-fn is_in_row(row: [u16; 5], segment: u16) -> bool
-    ensures { result ≡ Brackets.in_row segment (as_row row) }
+// The place of the first row that a segment is in.
+pub(crate) fn next_row(rows: &[Row], segment: u16) -> Option<usize>
+    ensures { NextRow segment rows.now result }
 {
-    (row[0] <= segment) & (segment <= row[1])
-}
-
-// The place of the first row from one on that a segment is in; past the last where it is in none.
-pub fn next_row(rows: &[[u16; 5]], from: usize, segment: u16) -> usize
-    requires { from ≤ length rows.now }
-    ensures { NextRow segment rows.now from result }
-{
-    let mut i = from;
-    while i < rows.len() {
-        if is_in_row(rows[i], segment) {
-            return i;
-        }
-        i += 1;
-    }
-    i
+    rows.iter().position(|row| row.contains(segment))
 }
 
 // 54 and 55 of a segment.
-fn segment_answer(rows: &[[u16; 5]], segment: u16) -> u8
-    ensures { result ≡ Brackets.one_row (Brackets.rows_of segment (as_rows rows.now)) }
+fn segment_answer(rows: &[Row], segment: u16) -> Result<(), TableError>
+    ensures { answer_number result ≡ Brackets.one_row (Brackets.rows_of segment (as_rows rows.now)) }
 {
-    let own = next_row(rows, 0, segment);
-    if own == rows.len() {
-        return 54;
+    let Some(own) = next_row(rows, segment) else {
+        return Err(TableError::SegmentInNoRow);
+    };
+    match next_row(&rows[own + 1..], segment) {
+        None => Ok(()),
+        Some(_) => Err(TableError::SegmentInSeveralRows),
     }
-    let other = next_row(rows, own + 1, segment);
-    if other < rows.len() {
-        return 55;
-    }
-    0
 }
 
 // Of all segments; the lowest at fault decides.
-pub fn segments_answer(rows: &[[u16; 5]], segments: u16) -> u8
-    ensures { result ≡ Brackets.segments_questions segments 0 (as_rows rows.now) }
+#[tactic(auto, using(crate::proofs::JudgeLaws::segments_laws))]
+pub(crate) fn segments_answer(rows: &[Row], segments: u16) -> Result<(), TableError>
+    ensures { answer_number result ≡ Brackets.segments_questions segments 0 (as_rows rows.now) }
 {
-    let mut segment = 0;
-    while segment < segments {
-        let number = segment_answer(rows, segment);
-        if number != 0 {
-            return number;
-        }
-        segment += 1;
+    for segment in 0..segments {
+        segment_answer(rows, segment)?;
     }
-    0
+    Ok(())
 }

@@ -2,40 +2,10 @@
 ghost use Rattle.std.specs.Prelude.{◌≡◌, true, ◌+◌, ◌*◌, ◌/◌, ◌%◌, ◌^◌, ◌≤◌, length};
 ghost use Rattle.model.specs.Questions.{all};
 ghost use Rattle.model.specs.Brackets as Brackets;
-ghost use Rattle.tables.specs.View.{as_row, as_rows};
+ghost use Rattle.tables.specs.View.{as_rows};
 
 use crate::judge::next_row;
-
-fn flag_bit(flag: u64) -> u64
-    ensures { (result ≡ Brackets.flag_bit flag) × (result ≤ 1) }
-{
-    if flag == 0 { 0 } else { 1 }
-}
-
-// The bytes of a row, two to a number.
-fn first_byte(pair: u16) -> u64
-    ensures { (result ≡ pair % 256) × (result ≤ 255) }
-{
-    (pair % 256) as u64
-}
-
-fn second_byte(pair: u16) -> u64
-    ensures { (result ≡ pair / 256) × (result ≤ 255) }
-{
-    (pair / 256) as u64
-}
-
-// Bits 40 to 51: R1, R2, R3, R, W and E.
-fn bracket_bits(row: [u16; 5]) -> u64
-    ensures { result ≡ Brackets.bracket_bits (as_row row) }
-{
-    first_byte(row[2])
-        + 8 * second_byte(row[2])
-        + 64 * first_byte(row[3])
-        + 512 * flag_bit(second_byte(row[3]))
-        + 1024 * flag_bit(first_byte(row[4]))
-        + 2048 * flag_bit(second_byte(row[4]))
-}
+use crate::row::Row;
 
 // A descriptor word by twelve bits for its brackets and flags; its other bits stay.
 fn with_bits(word: u64, bits: u64) -> u64
@@ -46,26 +16,25 @@ fn with_bits(word: u64, bits: u64) -> u64
 }
 
 // A segment's descriptor word by its own row.
-fn by_row(rows: &[[u16; 5]], segment: u16, word: u64, segments: u16) -> u64
+#[tactic(auto, using(crate::proofs::PutLaws::word_without_row))]
+fn by_row(rows: &[Row], segment: u16, word: u64, segments: u16) -> u64
     requires { all (Brackets.row_fits segments) (as_rows rows.now) ≡ true }
     ensures { result ≡ Brackets.by_row (Brackets.rows_of segment (as_rows rows.now)) word }
 {
-    let own = next_row(rows, 0, segment);
-    if own == rows.len() {
-        return word;
+    match next_row(rows, segment) {
+        None => word,
+        Some(own) => with_bits(word, rows[own].bracket_bits()),
     }
-    with_bits(word, bracket_bits(rows[own]))
 }
 
 // Every descriptor of the segment at `address`.
-pub fn put_rows(memory: &mut [u64], address: u32, segments: u16, rows: &[[u16; 5]])
+#[tactic(auto, using(crate::proofs::PutLaws::word_put, crate::proofs::PutLaws::all_put))]
+pub(crate) fn put_rows(memory: &mut [u64], address: u32, segments: u16, rows: &[Row])
     requires { (address + segments ≤ length memory.old) × (all (Brackets.row_fits segments) (as_rows rows.now) ≡ true) }
     ensures { memory.new ≡ Brackets.with_rows segments 0 (as_rows rows.now) address memory.old }
 {
-    let mut segment = 0;
-    while segment < segments {
-        let place = address as usize + segment as usize;
+    for segment in 0..segments {
+        let place = address as usize + usize::from(segment);
         memory[place] = by_row(rows, segment, memory[place], segments);
-        segment += 1;
     }
 }

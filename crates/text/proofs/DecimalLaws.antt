@@ -76,6 +76,9 @@ pub length_decimal : (k v : ℕ) → k < 20 → 10 ^ k ≤ v → v < 10 ^ suc k 
 unfolding decimal
 length_decimal k v r l h = sym (length_digits k 20 v [] r l h ∙ omega arith)
 
+pub length_decimal_log : (k v : ℕ) → k < 20 → 10 ^ k ≤ v → v < 10 * 10 ^ k → k + 1 ≡ length (decimal v)
+length_decimal_log k v r l h = let e : 10 ^ suc k ≡ 10 ^ k * 10 = pow-suc 10 k in omega (arith, length_decimal k v r l (omega arith))
+
 pub length_decimal_tenth : (v : ℕ) → 10 ≤ v → v < 18446744073709551616 → length (decimal v) ≡ length (decimal (v / 10)) + 1
 length_decimal_tenth v l h = ap length (decimal_last v l h) ∙ length-append (decimal (v / 10)) ((48 + v % 10) ∷ [])
 

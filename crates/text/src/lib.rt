@@ -9,34 +9,10 @@ ghost use Rattle.text.specs.Text.{Put, placed};
 pub fn width(v: u32) -> usize
     ensures { (result ≡ length (decimal v)) × (result ≤ 10) }
 {
-    if v < 10 {
-        return 1;
+    match v.checked_ilog10() {
+        Some(k) => k as usize + 1,
+        None => 1,
     }
-    if v < 100 {
-        return 2;
-    }
-    if v < 1000 {
-        return 3;
-    }
-    if v < 10000 {
-        return 4;
-    }
-    if v < 100000 {
-        return 5;
-    }
-    if v < 1000000 {
-        return 6;
-    }
-    if v < 10000000 {
-        return 7;
-    }
-    if v < 100000000 {
-        return 8;
-    }
-    if v < 1000000000 {
-        return 9;
-    }
-    10
 }
 
 // Its digits, so that the last stands just before `end`.
@@ -45,14 +21,10 @@ fn put_digits(text: &mut [u8], at: usize, end: usize, v: u32)
     ensures { text.new ≡ placed at (decimal v) text.old }
 {
     let mut left = v;
-    let mut i = end;
-    while 10 <= left {
-        i -= 1;
-        text[i] = (48 + left % 10) as u8;
-        left = left / 10;
+    for i in (at..end).rev() {
+        text[i] = b'0' + (left % 10) as u8;
+        left /= 10;
     }
-    i -= 1;
-    text[i] = (48 + left) as u8;
 }
 
 // A number at a place; the answer is the place after it.
@@ -66,14 +38,15 @@ pub fn put_decimal(text: &mut [u8], at: usize, v: u32) -> usize
 }
 
 // The same of a wider number: the digits past the narrow ones one by one.
+// Stays: a twin, since narrow numbers divide in 32 bits; a listing's speed is in docs/PERFORMANCE.md.
 pub fn put_decimal_64(text: &mut [u8], at: usize, v: u64) -> usize
     requires { at + 20 ≤ length text.old }
     ensures { Put 20 at (decimal v) text.old text.new result }
 {
-    if v < 4294967296 {
-        return put_decimal(text, at, v as u32);
+    if let Ok(narrow) = u32::try_from(v) {
+        return put_decimal(text, at, narrow);
     }
     let end = put_decimal_64(text, at, v / 10);
-    text[end] = (48 + v % 10) as u8;
+    text[end] = b'0' + (v % 10) as u8;
     end + 1
 }

@@ -1,7 +1,10 @@
 // Descriptors, each its word, and the absolute addresses that translation through one makes.
+#![tactic(auto, unfolding(model::specs::Words::descriptor_in))]
+
 ghost use Rattle.std.specs.Prelude.{◌≡◌, ◌+◌, ◌<◌, ◌≤◌};
 ghost use Rattle.model.specs.Words.{descriptor_in};
 
+use crate::bits::{field, is_on};
 use crate::pointer::WordNumber;
 
 // A word of the descriptor segment.
@@ -15,62 +18,62 @@ pub struct AbsoluteAddress(u64);
 pub fn address_of(d: Descriptor) -> u64
     ensures { (result ≡ (descriptor_in d.0).address) × (result < 16777216) }
 {
-    d.0 % 16777216
+    field::<0, 24>(d.0)
 }
 
 pub fn length_of(d: Descriptor) -> u64
     ensures { (result ≡ (descriptor_in d.0).length) × (result < 65536) }
 {
-    (d.0 >> 24) % 65536
+    field::<24, 16>(d.0)
 }
 
 pub fn r1_of(d: Descriptor) -> u64
     ensures { (result ≡ (descriptor_in d.0).r1) × (result ≤ 7) }
 {
-    (d.0 >> 40) % 8
+    field::<40, 3>(d.0)
 }
 
 pub fn r2_of(d: Descriptor) -> u64
     ensures { (result ≡ (descriptor_in d.0).r2) × (result ≤ 7) }
 {
-    (d.0 >> 43) % 8
+    field::<43, 3>(d.0)
 }
 
 pub fn r3_of(d: Descriptor) -> u64
     ensures { result ≡ (descriptor_in d.0).r3 }
 {
-    (d.0 >> 46) % 8
+    field::<46, 3>(d.0)
 }
 
 // R, W, E and V.
 pub fn is_read_on(d: Descriptor) -> bool
     ensures { result ≡ (descriptor_in d.0).read }
 {
-    (d.0 >> 49) % 2 == 1
+    is_on::<49>(d.0)
 }
 
 pub fn is_write_on(d: Descriptor) -> bool
     ensures { result ≡ (descriptor_in d.0).write }
 {
-    (d.0 >> 50) % 2 == 1
+    is_on::<50>(d.0)
 }
 
 pub fn is_execute_on(d: Descriptor) -> bool
     ensures { result ≡ (descriptor_in d.0).execute }
 {
-    (d.0 >> 51) % 2 == 1
+    is_on::<51>(d.0)
 }
 
 pub fn is_valid(d: Descriptor) -> bool
     ensures { result ≡ (descriptor_in d.0).valid }
 {
-    (d.0 >> 52) % 2 == 1
+    is_on::<52>(d.0)
 }
 
 pub fn gate_of(d: Descriptor) -> u64
     ensures { result ≡ (descriptor_in d.0).gate }
 {
-    (d.0 >> 53) % 2048
+    field::<53, 11>(d.0)
 }
 
 // The address of a word of a segment, through the segment's descriptor.

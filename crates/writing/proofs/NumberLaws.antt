@@ -3,7 +3,7 @@ use mathlib.Core.Path.{◌≡◌, sym, ap, ◌∙◌}
 use mathlib.Core.List.{List}
 use Prim.Native.Nat.{ℕ, suc, ◌+◌, ◌-◌, ◌/◌, ◌%◌, ◌≤◌, ◌<◌}
 use native.Mathlib.Omega.{arith}
-use lib.ListN.{length, set, length-set}
+use lib.ListN.{length, set}
 use Rattle.model.specs.Write.{bytes}
 use Rattle.formats.proofs.WriteLaws.{length_bytes, bytes_last}
 use Rattle.text.specs.Text.{placed}
@@ -15,9 +15,6 @@ module _ (a n v : ℕ) where
 
   pub every_byte_to_put : (t : List ℕ) → placed a (bytes (a + n - a) v) t ≡ placed a (bytes n v) t
   every_byte_to_put t = let e : a + n - a ≡ n = omega arith in ap (λ k. placed a (bytes k v) t) e
-
-pub place_within_set : (i j y : ℕ) (t : List ℕ) → i ≤ length t → i - 1 ≤ length (set t j y)
-place_within_set i j y t h = omega (arith, length-set t j y)
 
 module _ (a i v : ℕ) (t z : List ℕ) (e : placed a (bytes (i - a) v) t ≡ z) where
   pub last_byte_put : a < i → i ≤ length t → placed a (bytes (i - 1 - a) (v / 256)) (set t (i - 1) (v % 256)) ≡ z
@@ -34,4 +31,4 @@ module _ (a i v : ℕ) (t z : List ℕ) (e : placed a (bytes (i - a) v) t ≡ z)
   unfolding bytes
   no_byte_to_put l = let none : i - a ≡ 0 = omega arith in sym (placed_none a t) ∙ ap (λ k. placed a (bytes k v) t) (sym none) ∙ e
 
-pub ruleset number_laws = (next_after_bytes, every_byte_to_put, place_within_set, last_byte_put, no_byte_to_put)
+pub ruleset number_laws = (next_after_bytes, every_byte_to_put, last_byte_put, no_byte_to_put)

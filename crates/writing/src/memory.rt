@@ -23,10 +23,8 @@ pub fn put_words(text: &mut [u8], at: usize, memory: &[u64]) -> usize
     ensures { Put (14 * length memory.now) at (word_records 0 memory.now) text.old text.new result }
 {
     let mut next = at;
-    let mut k = 0;
-    while k < memory.len() {
-        next = put_word(text, next, k as u64, memory[k]);
-        k += 1;
+    for (k, word) in memory.iter().enumerate() {
+        next = put_word(text, next, k as u64, *word);
     }
     next
 }

@@ -9,13 +9,12 @@ pub fn put_number(text: &mut [u8], at: usize, n: usize, v: u64) -> usize
     ensures { Put n at (bytes n v) text.old text.new result }
 {
     let mut left = v;
-    let mut i = at + n;
-    while at < i {
-        i -= 1;
+    let end = at + n;
+    for i in (at..end).rev() {
         text[i] = (left % 256) as u8;
-        left = left / 256;
+        left /= 256;
     }
-    at + n
+    end
 }
 
 // A record's mark and four bytes of a number: ME and RN whole, and WD's address.

@@ -8,7 +8,7 @@ ghost use Rattle.host.specs.Record.{registers_of, delivery_of};
 ghost use Rattle.text.specs.Text.{Put};
 
 use crate::number::put_number;
-use host::record::{DescriptorBase, Registers, to_core};
+use host::record::{DescriptorBase, Registers};
 use words::pointer::Pointer;
 
 // Three numbers of one byte, two and two: a pointer, or the switch and its segments.
@@ -35,10 +35,8 @@ fn put_prs(text: &mut [u8], at: usize, prs: &[u16; 24]) -> usize
     ensures { Put 40 at (pointers_bytes (as_pointers prs.now)) text.old text.new result }
 {
     let mut next = at;
-    let mut k = 0;
-    while k < 8 {
+    for k in 0..8 {
         next = put_pointer(text, next, state::prs::pr(prs, k));
-        k += 1;
     }
     next
 }
@@ -60,7 +58,7 @@ pub fn put_start(text: &mut [u8], at: usize, registers: Registers) -> usize
     ensures { Put 66 at (ST_record (registers_of registers) (delivery_of registers)) text.old text.new result }
 {
     let at_ipr = put_base(text, at, registers.a, registers.dbr);
-    let at_prs = put_pointer(text, at_ipr, to_core(registers.ipr));
+    let at_prs = put_pointer(text, at_ipr, Pointer::from(registers.ipr));
     let prs = registers.prs;
     let at_delivery = put_prs(text, at_prs, &prs);
     let d = registers.delivery;

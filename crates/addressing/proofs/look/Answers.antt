@@ -1,22 +1,11 @@
 -- `look` meets its contract. Assumes nothing.
-use borrow.Author.Rules.{rules}
-use Rattle.addressing.proofs.WalkLaws.{looks}
+use Rattle.std.proofs.Common.{refl, ltb-true}
+use Rattle.std.proofs.lemmas.Result.{err_from_is_err_and}
+use Rattle.addressing.proofs.WalkLaws.{look_no}
 use Rattle.addressing.proofs.look.Goals as goal
 
-pub returns-then-descriptors-i : goal.returns-then-descriptors-i
-returns-then-descriptors-i c = search (rules, looks)
-
-pub offset_bounds-descriptors-i : goal.offset_bounds-descriptors-i
-offset_bounds-descriptors-i c = search rules
-
-pub bounds-descriptors-i : goal.bounds-descriptors-i
-bounds-descriptors-i c = search rules
-
-pub descriptor_answer-n-requires : goal.descriptor_answer-n-requires
-descriptor_answer-n-requires c = search rules
-
-pub returns-then-n-ne0 : goal.returns-then-n-ne0
-returns-then-n-ne0 c = search (rules, looks)
-
-pub returns : goal.returns
-returns c = search rules
+pub returns-in_err-descriptor_answer : goal.returns-in_err-descriptor_answer
+returns-in_err-descriptor_answer c =
+    let at = c.from_residual-in_err-descriptor_answer in
+    let p = err_from_is_err_and at.result at.ensures.1 in
+    rw (p.1, p.2) (look_no _ _ _ _ _ (ltb-true _ _ c.in_ok-answer.ensures) refl c.in_err-descriptor_answer.ensures)

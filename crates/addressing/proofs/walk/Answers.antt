@@ -1,69 +1,58 @@
 -- `walk` meets its contract. Assumes nothing.
-use mathlib.Core.Bool.{true}
-use mathlib.Core.Path.{◌≡◌}
-use Prim.Native.Nat.{◌≤◌}
-use lib.ListN.{length}
-use borrow.Author.Rules.{rules}
-use Rattle.addressing.proofs.WalkLaws.{walks}
-use Rattle.addressing.specs.Address.{lent, through, tpr_of, KeptRight}
+use Rattle.std.proofs.Common.{◌≡◌, Ok, Err, arith, rules}
+use Rattle.std.proofs.lemmas.Result.{err_from_is_err_and}
+use Rattle.addressing.proofs.MapErrLaws.{was_ok, was_err}
+use Rattle.addressing.proofs.WalkLaws.{at_start, right_within, word_inside, none_left, refused, goes_on, ends}
 use Rattle.addressing.proofs.walk.Goals as goal
 
-pub encode-word-requires : goal.encode-word-requires
-encode-word-requires c = search (rules, walks)
-
-pub loop-more-init : goal.loop-more-init
-loop-more-init c = search (rules, walks)
-
-pub tpr-t-requires : goal.tpr-t-requires
-tpr-t-requires c = search (rules, walks)
-
-pub returns-then-left-eq0 : goal.returns-then-left-eq0
-returns-then-left-eq0 c = search (rules, walks)
-
-pub find-requires : goal.find-requires
-find-requires c = search (rules, walks)
-
-pub enum_known-n : goal.enum_known-n
-enum_known-n c = search (rules, walks)
-
-pub overflow_sub-result : goal.overflow_sub-result
-overflow_sub-result c = search (rules, walks)
-
-pub returns-in-Refused : goal.returns-in-Refused
-returns-in-Refused c = search (rules, walks)
-
-pub enum_known-k : goal.enum_known-k
-enum_known-k c = search (rules, walks)
-
-pub word_answer-n-requires : goal.word_answer-n-requires
-word_answer-n-requires c = search (rules, walks)
-
-pub overflow_sub-result-then-n-ne0 : goal.overflow_sub-result-then-n-ne0
-overflow_sub-result-then-n-ne0 c = search (rules, walks)
-
-pub returns-then-n-ne0 : goal.returns-then-n-ne0
-returns-then-n-ne0 c = search (rules, walks)
+pub returns-in_err-kept : goal.returns-in_err-kept
+returns-in_err-kept c =
+    let h = was_err _ _ _ c.map_err.ensures.cases _ c.in_err-kept.was in
+    let e : c.in_err-kept.field-0.0 ≡ record { fault = h.0; pointer = c.tpr-t.result; read = c.loop-read.read } = search rules in
+    let p = err_from_is_err_and c.from_residual.result c.from_residual.ensures.1 in
+    let was : c.ask.result ≡ Err h.0 = h.1 in
+    let b = c.requires in
+    rw (p.1, p.2, e)
+    (record {
+      same =
+          refused _ _ _ _ _ c.tpr-t.ensures.0 _ c.loop-read.read (omega arith) c.loop-read.invariant.0 _ (rw was at c.ask.ensures) _
+          (at_start _ _ _ _ _ _ c.encode-word.ensures b.ring_within b.segment_within b.word_within);
+      within = tt;
+    })
 
 pub read-word-requires : goal.read-word-requires
-read-word-requires c = search (rules, walks)
+read-word-requires c =
+    let was : c.ask.result ≡ Ok c.in_ok-kept.kept = was_ok _ _ _ c.map_err.ensures.cases _ c.in_ok-kept.was in
+    let k = rw was at c.ask.ensures in
+    (right_within _ _ _ _ k.0, word_inside _ _ k.1)
 
-pub next_ring-ring-requires : goal.next_ring-ring-requires
-next_ring-ring-requires c = search (rules, walks)
+pub returns-then-not-is_indirect : goal.returns-then-not-is_indirect
+returns-then-not-is_indirect c =
+    let b = c.requires in
+    let was : c.ask.result ≡ Ok c.in_ok-kept.kept = was_ok _ _ _ c.map_err.ensures.cases _ c.in_ok-kept.was in
+    let k = rw was at c.ask.ensures in
+    record {
+      same =
+          ends _ _ _ _ _ c.tpr-t.ensures.0 _ c.loop-read.read (omega arith) c.loop-read.invariant.0 _ k.0 k.1 _ _ c.read-word.ensures c.next_ring-ring.ensures.0 _
+          c.is_indirect.ensures c.if-not-is_indirect.true _ c.tpr.ensures.0 _
+          (at_start _ _ _ _ _ _ c.encode-word.ensures b.ring_within b.segment_within b.word_within);
+      within = c.tpr.ensures.1;
+    }
 
-pub is_indirect-more-requires : goal.is_indirect-more-requires
-is_indirect-more-requires c = search (rules, walks)
-
-pub overflow_sub-left : goal.overflow_sub-left
-overflow_sub-left c = search (rules, walks)
-
-pub loop-more-smaller : goal.loop-more-smaller
-loop-more-smaller c = search (rules, walks)
-
-pub loop-more-preserved : goal.loop-more-preserved
-loop-more-preserved c = search (rules, walks)
-
-pub tpr-requires : goal.tpr-requires
-tpr-requires c = search (rules, walks)
+pub loop-read-preserved : goal.loop-read-preserved
+loop-read-preserved c =
+    let was : c.ask.result ≡ Ok c.in_ok-kept.kept = was_ok _ _ _ c.map_err.ensures.cases _ c.in_ok-kept.was in
+    let k = rw was at c.ask.ensures in (
+      goes_on _ _ _ _ _ c.tpr-t.ensures.0 _ c.loop-read.read (omega arith) c.loop-read.invariant.0 _ k.0 k.1 _ _ c.read-word.ensures c.next_ring-ring.ensures.0 _
+          c.is_indirect.ensures c.if-not-is_indirect.false,
+      c.next_ring-ring.ensures.1,
+      k.2,
+    )
 
 pub returns : goal.returns
-returns c = search (rules, walks)
+returns c =
+    let b = c.requires in
+    record {
+      same = none_left _ _ _ _ _ c.tpr-2.ensures.0 _ c.loop-read.read (omega arith) c.loop-read.invariant.0 _ (at_start _ _ _ _ _ _ c.encode-word.ensures b.ring_within b.segment_within b.word_within);
+      within = tt;
+    }

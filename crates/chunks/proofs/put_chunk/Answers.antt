@@ -3,21 +3,6 @@ use borrow.Author.Rules.{rules}
 use Rattle.chunks.proofs.ChunkLaws.{steps_have_room, steps_traced, steps_fit, steps_few, chunk_written}
 use Rattle.chunks.proofs.put_chunk.Goals as goal
 
-pub slice_bounds-run-end : goal.slice_bounds-run-end
-slice_bounds-run-end c = search rules
-
-pub run-y-requires : goal.run-y-requires
-run-y-requires c = search rules
-
-pub reply_of-reply-requires : goal.reply_of-reply-requires
-reply_of-reply-requires c = search rules
-
-pub slice_bounds-put_steps-end : goal.slice_bounds-put_steps-end
-slice_bounds-put_steps-end c = search rules
-
-pub steps_of-requires : goal.steps_of-requires
-steps_of-requires c = search rules
-
 pub put_steps-length-requires : goal.put_steps-length-requires
 put_steps-length-requires c = (steps_have_room _ _ _ _ _ _ _ _ _ _ c.run-y.ensures c.requires.0 _ c.reply_of-reply.ensures _ c.steps_of.ensures _ _ c.requires.1, steps_traced _ _ _ _ _ _ _ _ _ _ c.run-y.ensures c.requires.0 _ c.reply_of-reply.ensures _ c.steps_of.ensures (search rules), steps_fit _ _ _ _ _ _ _ _ _ _ c.run-y.ensures c.requires.0 _ c.reply_of-reply.ensures _ c.steps_of.ensures _ c.requires.3, steps_few _ _ _ _ _ _ _ _ _ _ c.run-y.ensures c.requires.0 _ c.reply_of-reply.ensures _ c.steps_of.ensures (search rules))
 

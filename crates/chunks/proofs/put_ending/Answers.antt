@@ -3,14 +3,8 @@ use borrow.Author.Rules.{rules}
 use Rattle.chunks.proofs.ChunkLaws.{endings}
 use Rattle.chunks.proofs.put_ending.Goals as goal
 
-pub put_last_line-requires : goal.put_last_line-requires
-put_last_line-requires c = search rules
-
 pub overflow_add-count : goal.overflow_add-count
 overflow_add-count c = search (rules, endings)
-
-pub put_last_line-requires-in-Halted : goal.put_last_line-requires-in-Halted
-put_last_line-requires-in-Halted c = search rules
 
 pub overflow_add-count-in-Fault : goal.overflow_add-count-in-Fault
 overflow_add-count-in-Fault c = search (rules, endings)

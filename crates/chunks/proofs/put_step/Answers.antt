@@ -3,11 +3,5 @@ use borrow.Author.Rules.{rules}
 use Rattle.chunks.proofs.ChunkLaws.{line_of_a_step}
 use Rattle.chunks.proofs.put_step.Goals as goal
 
-pub decode-p-requires : goal.decode-p-requires
-decode-p-requires c = search rules
-
-pub put_step_line-requires : goal.put_step_line-requires
-put_step_line-requires c = search rules
-
 pub returns : goal.returns
 returns c = search (rules, line_of_a_step)

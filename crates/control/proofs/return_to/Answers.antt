@@ -1,15 +1,10 @@
 -- `return_to` meets its contract. Assumes nothing.
-use Rattle.model.specs.Step as Step
-use Rattle.state.proofs.DoesLaws.{look_answered}
-use borrow.Author.Rules.{rules}
+use Rattle.std.proofs.Common.{refl, rules}
+use Rattle.control.proofs.MoveLaws.{return_refused, return_enters}
 use Rattle.control.proofs.return_to.Goals as goal
 
-pub look-requires : goal.look-requires
-look-requires c = search rules
+pub returns-in-Err : goal.returns-in-Err
+returns-in-Err c = return_refused _ _ _ _ _ _ _ c.look.ensures _ refl _ c.in-Err.is (search rules)
 
-pub returned-requires : goal.returned-requires
-returned-requires c = search rules
-
-pub returns : goal.returns
-unfolding Step.return
-returns c = look_answered _ _ _ _ _ _ _ c.look.ensures _ _ _ c.returned.ensures
+pub returns-in-Ok : goal.returns-in-Ok
+returns-in-Ok c = return_enters _ _ _ _ _ _ _ c.look.ensures _ refl _ _ c.in-Ok.is c.raise_rings.ensures (search rules)

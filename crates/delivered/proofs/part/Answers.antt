@@ -10,20 +10,20 @@ steps-x-requires c = (passes_plainly _ _ c.requires.0 _ c.requires.0, c.requires
 pub reply_of-requires : goal.reply_of-requires
 reply_of-requires c = search rules
 
-pub overflow_add-result : goal.overflow_add-result
-overflow_add-result c = search (rules, spent_fits _ _ _ _ _ c.requires.0 c.requires.1 _ _ _ c.steps-x.ensures _ c.reply_of.ensures _ c.in-Spent.is)
-
-pub overflow_add-result-in-Spent : goal.overflow_add-result-in-Spent
-overflow_add-result-in-Spent c = search (rules, spent_fits _ _ _ _ _ c.requires.0 c.requires.1 _ _ _ c.steps-x.ensures _ c.reply_of.ensures _ c.in-Spent.is)
-
-pub overflow_add-result-in-Halted : goal.overflow_add-result-in-Halted
-overflow_add-result-in-Halted c = search (rules, halted_fits _ _ _ _ _ c.requires.0 c.requires.1 _ _ _ c.steps-x.ensures _ c.reply_of.ensures _ c.in-Halted.is)
-
-pub overflow_add-result-in-Halted-2 : goal.overflow_add-result-in-Halted-2
-overflow_add-result-in-Halted-2 c = search (rules, halted_fits _ _ _ _ _ c.requires.0 c.requires.1 _ _ _ c.steps-x.ensures _ c.reply_of.ensures _ c.in-Halted.is)
-
 pub overflow_add-count : goal.overflow_add-count
-overflow_add-count c = search (rules, stop_below _ _ _ _ _ c.requires.0 c.requires.1 _ _ _ c.steps-x.ensures _ c.reply_of.ensures _ _ _ c.in-Fault.is, c.ranges.budget.fits)
+overflow_add-count c = search (rules, spent_fits _ _ _ _ _ c.requires.0 c.requires.1 _ _ _ c.steps-x.ensures _ c.reply_of.ensures _ c.in-Spent.is)
+
+pub overflow_add-count-in-Spent : goal.overflow_add-count-in-Spent
+overflow_add-count-in-Spent c = search (rules, spent_fits _ _ _ _ _ c.requires.0 c.requires.1 _ _ _ c.steps-x.ensures _ c.reply_of.ensures _ c.in-Spent.is)
+
+pub overflow_add-count-in-Halted : goal.overflow_add-count-in-Halted
+overflow_add-count-in-Halted c = search (rules, halted_fits _ _ _ _ _ c.requires.0 c.requires.1 _ _ _ c.steps-x.ensures _ c.reply_of.ensures _ c.in-Halted.is)
+
+pub overflow_add-count-in-Halted-2 : goal.overflow_add-count-in-Halted-2
+overflow_add-count-in-Halted-2 c = search (rules, halted_fits _ _ _ _ _ c.requires.0 c.requires.1 _ _ _ c.steps-x.ensures _ c.reply_of.ensures _ c.in-Halted.is)
+
+pub overflow_add-count-in-Fault : goal.overflow_add-count-in-Fault
+overflow_add-count-in-Fault c = search (rules, stop_below _ _ _ _ _ c.requires.0 c.requires.1 _ _ _ c.steps-x.ensures _ c.reply_of.ensures _ _ _ c.in-Fault.is, c.ranges.budget.fits)
 
 pub stop-requires : goal.stop-requires
 stop-requires c = stop_here _ _ _ _ _ c.requires.0 c.requires.1 _ _ _ c.steps-x.ensures _ c.reply_of.ensures _ _ _ c.in-Fault.is
@@ -32,10 +32,10 @@ pub returns-in-Refused : goal.returns-in-Refused
 returns-in-Refused c = absurd (never_refused _ _ _ _ _ c.requires.0 c.requires.1 _ _ _ c.steps-x.ensures _ c.reply_of.ensures _ c.in-Refused.is)
 
 pub returns-in-Spent : goal.returns-in-Spent
-returns-in-Spent c = part_spent _ _ _ _ _ c.requires.0 c.requires.1 _ _ _ c.steps-x.ensures _ c.reply_of.ensures _ c.in-Spent.is _
+returns-in-Spent c = rw c.ended-in-Spent.ensures (part_spent _ _ _ _ _ c.requires.0 c.requires.1 _ _ _ c.steps-x.ensures _ c.reply_of.ensures _ c.in-Spent.is _)
 
 pub returns-in-Halted : goal.returns-in-Halted
-returns-in-Halted c = part_halted _ _ _ _ _ c.requires.0 c.requires.1 _ _ _ c.steps-x.ensures _ c.reply_of.ensures _ c.in-Halted.is _
+returns-in-Halted c = rw c.ended-in-Halted.ensures (part_halted _ _ _ _ _ c.requires.0 c.requires.1 _ _ _ c.steps-x.ensures _ c.reply_of.ensures _ c.in-Halted.is _)
 
 pub returns-in-Fault : goal.returns-in-Fault
 returns-in-Fault c = part_stopped _ _ _ _ _ c.requires.0 c.requires.1 _ _ _ c.steps-x.ensures _ c.reply_of.ensures _ _ _ c.in-Fault.is _ _ _ c.stop.ensures

@@ -1,6 +1,5 @@
 -- `place_in` meets its contract. Assumes nothing.
 use native.Mathlib.Omega.{arith}
-use borrow.Author.Rules.{rules}
 use Rattle.delivered.proofs.place_in.Goals as goal
 
 pub returns-then-size-i : goal.returns-then-size-i

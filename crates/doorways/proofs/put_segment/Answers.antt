@@ -4,14 +4,8 @@ use Rattle.doorways.proofs.ListLaws.{segment_laws}
 use borrow.Author.Rules.{rules}
 use Rattle.doorways.proofs.put_segment.Goals as goal
 
-pub is_door-requires : goal.is_door-requires
-is_door-requires c = search rules
-
 pub put_door-requires : goal.put_door-requires
 put_door-requires c = search (rules, door_leads_down)
-
-pub overflow_add-result : goal.overflow_add-result
-overflow_add-result c = search rules
 
 pub returns-then-is_door : goal.returns-then-is_door
 returns-then-is_door c = search (rules, segment_laws)

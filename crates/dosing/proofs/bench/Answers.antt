@@ -1,37 +1,20 @@
 -- `bench` meets its contract. Assumes nothing.
-use borrow.Author.Rules.{rules}
-use Rattle.dosing.proofs.BenchLaws.{whole_image, image_refused}
+use Rattle.std.proofs.Common.{ap}
+use Rattle.std.proofs.lemmas.Result.{err_from_is_err_and}
+use Rattle.std.specs.Prelude.{Ok}
+use Rattle.image.proofs.LoadLaws.{may_load}
+use Rattle.dosing.proofs.BenchLaws.{image_refused, image_listed}
 use Rattle.dosing.proofs.bench.Goals as goal
 
-pub empty_store-store-requires : goal.empty_store-store-requires
-empty_store-store-requires c = search rules
+pub load-requires : goal.load-requires
+load-requires c = may_load _ _ _ c.nothing_loaded-loading.ensures.0 c.empty_store-store.ensures.0
 
-pub nothing_loaded-requires : goal.nothing_loaded-requires
-nothing_loaded-requires c = search rules
-
-pub slice_bounds-load-end : goal.slice_bounds-load-end
-slice_bounds-load-end c = search rules
-
-pub load-x-requires : goal.load-x-requires
-load-x-requires c = search (rules, whole_image)
-
-pub overflow_cast-words : goal.overflow_cast-words
-overflow_cast-words c = search rules
-
-pub slice_bounds-store-end : goal.slice_bounds-store-end
-slice_bounds-store-end c = search (rules, whole_image)
-
-pub slice_bounds-list_loaded-end : goal.slice_bounds-list_loaded-end
-slice_bounds-list_loaded-end c = search (rules, whole_image)
-
-pub list_loaded-requires : goal.list_loaded-requires
-list_loaded-requires c = search rules
-
-pub returns-in-Refused : goal.returns-in-Refused
-returns-in-Refused c = image_refused _ _ _ _ _ _ c.nothing_loaded.ensures.0 c.empty_store-store.ensures.0 c.load-x.ensures _ c.in-Refused.is
-
-pub returns-in-More : goal.returns-in-More
-returns-in-More c = search (rules, whole_image)
+pub returns-in_err-outcome : goal.returns-in_err-outcome
+returns-in_err-outcome c =
+    let p = err_from_is_err_and c.from_residual.result c.from_residual.ensures.1 in
+    rw (p.1, p.2)
+    (image_refused _ _ _ _ c.load.result _ _ c.nothing_loaded-loading.ensures.0 c.empty_store-store.ensures.0 c.load.ensures _ c.in_err-outcome.was)
 
 pub returns-in-Ready : goal.returns-in-Ready
-returns-in-Ready c = search (rules, whole_image)
+returns-in-Ready c =
+    image_listed _ _ _ _ _ _ _ c.nothing_loaded-loading.ensures.0 c.empty_store-store.ensures.0 c.in_ok-outcome.ensures _ (ap Ok c.in-Ready.is) _ _ c.list_loaded.ensures

@@ -1,25 +1,14 @@
 -- `list_loaded` meets its contract. Assumes nothing.
-use borrow.Author.Rules.{rules}
-use Rattle.dosing.proofs.BenchLaws.{answers}
+use Rattle.std.proofs.Common.{rules, arith}
+use Rattle.std.proofs.lemmas.Result.{err_from_is_err_and}
+use Rattle.dosing.proofs.BenchLaws.{not_started, lists}
 use Rattle.dosing.proofs.list_loaded.Goals as goal
 
-pub prepare-x-requires : goal.prepare-x-requires
-prepare-x-requires c = search rules
-
-pub returns-then-x-ne0 : goal.returns-then-x-ne0
-returns-then-x-ne0 c = search (rules, answers)
-
-pub overflow_add-budget : goal.overflow_add-budget
-overflow_add-budget c = search rules
-
-pub overflow_mul-budget : goal.overflow_mul-budget
-overflow_mul-budget c = search rules
-
-pub returns-then-text-budget : goal.returns-then-text-budget
-returns-then-text-budget c = search (rules, answers)
-
-pub list_whole-requires : goal.list_whole-requires
-list_whole-requires c = search (rules, answers)
+pub returns-in_err-record_answer : goal.returns-in_err-record_answer
+returns-in_err-record_answer c =
+    let p = err_from_is_err_and c.from_residual.result c.from_residual.ensures.1 in
+    rw (p.1, p.2) (not_started _ _ _ _ c.record_answer.result c.record_answer.ensures _ c.in_err-record_answer.was)
 
 pub returns : goal.returns
-returns c = search (rules, answers)
+returns c =
+    lists _ _ _ _ c.record_answer.result c.record_answer.ensures _ c.in_ok-record_answer.was _ c.core_of-core.ensures _ _ c.list_whole.ensures (omega arith) (omega arith)

@@ -4,18 +4,6 @@ use Rattle.model.specs.Listing.{ascii, line, refusal_line, last_line}
 use Rattle.endings.proofs.LastLineLaws.{last_line_laws}
 use Rattle.endings.proofs.put_last_line.Goals as goal
 
-pub overflow_cast-n : goal.overflow_cast-n
-overflow_cast-n c = search rules
-
-pub put_named-requires : goal.put_named-requires
-put_named-requires c = search rules
-
-pub put_counted-requires : goal.put_counted-requires
-put_counted-requires c = search rules
-
-pub put_counted-requires-in-Halted : goal.put_counted-requires-in-Halted
-put_counted-requires-in-Halted c = search rules
-
 pub put_fault_line-requires : goal.put_fault_line-requires
 put_fault_line-requires c = search (rules, last_line_laws)
 

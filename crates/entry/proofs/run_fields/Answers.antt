@@ -3,12 +3,6 @@ use Rattle.entry.proofs.CallLaws.{parts_fit, call_says}
 use borrow.Author.Rules.{rules}
 use Rattle.entry.proofs.run_fields.Goals as goal
 
-pub to_base-base-requires : goal.to_base-base-requires
-to_base-base-requires c = search rules
-
-pub to_core-at-requires : goal.to_core-at-requires
-to_core-at-requires c = search rules
-
 pub run_core-x-requires : goal.run_core-x-requires
 run_core-x-requires c = search rules
 
@@ -18,17 +12,14 @@ overflow_cast-result c = search (rules, c.run_core-x.ensures.fits)
 pub overflow_cast-result-2 : goal.overflow_cast-result-2
 overflow_cast-result-2 c = search (rules, c.run_core-x.ensures.fits)
 
-pub overflow_cast-result-3 : goal.overflow_cast-result-3
-overflow_cast-result-3 c = search (rules, c.run_core-x.ensures.fits)
-
 pub from_core-requires : goal.from_core-requires
 from_core-requires c = search (rules, c.run_core-x.ensures.fits)
 
 pub from_base-requires : goal.from_base-requires
-from_base-requires c = let f = c.run_core-x.ensures.core_fits (parts_fit _ _ _ c.to_base-base.ensures.1 c.to_base-base.ensures.2 c.to_core-at.ensures.1 c.to_core-at.ensures.2 c.to_core-at.ensures.3) in (f.address_fits, f.length_fits)
+from_base-requires c = let f = c.run_core-x.ensures.core_fits (parts_fit _ _ _ c.from-base.ensures.1 c.from-base.ensures.2 c.from-at.ensures.1 c.from-at.ensures.2 c.from-at.ensures.3) in (f.address_fits, f.length_fits)
 
 pub from_core-requires-2 : goal.from_core-requires-2
-from_core-requires-2 c = let f = c.run_core-x.ensures.core_fits (parts_fit _ _ _ c.to_base-base.ensures.1 c.to_base-base.ensures.2 c.to_core-at.ensures.1 c.to_core-at.ensures.2 c.to_core-at.ensures.3) in (f.ring_fits, f.segment_fits, f.word_fits)
+from_core-requires-2 c = let f = c.run_core-x.ensures.core_fits (parts_fit _ _ _ c.from-base.ensures.1 c.from-base.ensures.2 c.from-at.ensures.1 c.from-at.ensures.2 c.from-at.ensures.3) in (f.ring_fits, f.segment_fits, f.word_fits)
 
 pub returns : goal.returns
-returns c = call_says _ _ _ _ _ _ _ _ c.to_base-base.ensures.0 c.to_core-at.ensures.0 _ _ _ _ _ c.run_core-x.ensures _ _ _ c.from_core.ensures c.from_core-2.ensures c.from_base.ensures
+returns c = call_says _ _ _ _ _ _ _ _ c.from-base.ensures.0 c.from-at.ensures.0 _ _ _ _ _ c.run_core-x.ensures _ c.from.ensures _ _ _ c.from_core.ensures c.from_core-2.ensures c.from_base.ensures

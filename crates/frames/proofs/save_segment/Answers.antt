@@ -1,25 +1,11 @@
 -- `save_segment` meets its contract. Assumes nothing.
-use Rattle.frames.proofs.SaveLaws.{save_answers}
-use borrow.Author.Rules.{rules}
+use Rattle.std.proofs.Common.{refl}
+use Rattle.state.specs.View.{as_delivery}
+use Rattle.frames.proofs.SaveLaws.{switched_off, save_answered}
 use Rattle.frames.proofs.save_segment.Goals as goal
 
 pub returns-then-delivery-ne1 : goal.returns-then-delivery-ne1
-returns-then-delivery-ne1 c = search (rules, save_answers)
+returns-then-delivery-ne1 c = switched_off _ _ _ c.if-delivery-ne1.true
 
-pub overflow_cast-last : goal.overflow_cast-last
-overflow_cast-last c = search (rules, save_answers)
-
-pub look-requires : goal.look-requires
-look-requires c = search (rules, save_answers)
-
-pub enum_known-_n : goal.enum_known-_n
-enum_known-_n c = search (rules, save_answers)
-
-pub enum_known-d : goal.enum_known-d
-enum_known-d c = search (rules, save_answers)
-
-pub returns-in-Refused : goal.returns-in-Refused
-returns-in-Refused c = search (rules, save_answers)
-
-pub returns-in-Passed : goal.returns-in-Passed
-returns-in-Passed c = search (rules, save_answers)
+pub returns : goal.returns
+returns c = save_answered (as_delivery c.args.delivery) c.args.core c.args.memory.now _ refl c.from.ensures refl _ c.look.ensures c.if-delivery-ne1.false c.ok.result c.ok.ensures.value

@@ -6,11 +6,5 @@ use Rattle.lines.proofs.number_of.Goals as goal
 pub returns-then-value-lt10 : goal.returns-then-value-lt10
 returns-then-value-lt10 c = search (rules, kept_laws)
 
-pub put_decimal-width-requires : goal.put_decimal-width-requires
-put_decimal-width-requires c = search rules
-
-pub overflow_cast-result-2 : goal.overflow_cast-result-2
-overflow_cast-result-2 c = search rules
-
 pub returns : goal.returns
 returns c = search (rules, kept_laws)

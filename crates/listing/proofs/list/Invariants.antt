@@ -3,11 +3,9 @@ use mathlib.Core.Bool.{false}
 use mathlib.Core.List.{◌++◌}
 use Prim.Native.Nat.{◌-◌, ◌*◌, ◌≤◌}
 use lib.ListN.{length, take, drop}
-use borrow.Author.Rules.{rules}
 use Rattle.model.specs.Questions.{start_questions}
 use Rattle.state.specs.View.{as_machine, as_delivery}
 use Rattle.chunks.specs.Chunk.{text_from}
-use Rattle.listing.proofs.ListedLaws.{lines_of_a_run, next_far, next_few}
 use Rattle.listing.proofs.list.Given as goal
 
 abbrev pub invariant-loop-done : goal.invariant-loop-done

@@ -3,8 +3,5 @@ use borrow.Author.Rules.{rules}
 use Rattle.listing.proofs.ListedLaws.{whole_listings}
 use Rattle.listing.proofs.list_whole.Goals as goal
 
-pub list-x-requires : goal.list-x-requires
-list-x-requires c = search rules
-
 pub returns : goal.returns
 returns c = search (rules, whole_listings)

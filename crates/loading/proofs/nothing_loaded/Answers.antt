@@ -1,6 +1,6 @@
 -- `nothing_loaded` meets its contract. Assumes nothing.
 use mathlib.Core.Path.{◌≡◌, refl, sym, ◌∙◌, ap}
-use mathlib.Core.Bool.{Bool, true, false, cond, true≢false}
+use mathlib.Core.Bool.{cond}
 use mathlib.Core.Logic.{inl, inr}
 use mathlib.Core.Option.{none}
 use mathlib.Core.List.{List}
@@ -10,23 +10,24 @@ use lib.ListN.{length, replicate, length-replicate}
 use Rattle.model.specs.Image as Image
 use Rattle.model.specs.Registers.{no_delivery}
 use Rattle.addresses.proofs.SetLaws.{none_in_zeros}
-use Rattle.loading.specs.View.{rules_of, keeps_words, set_in, rules_in, as_loading, StoreSized, MemoryWithin, Starts, StartsSizing}
+use Rattle.fields.specs.declared.rules.Rules.{Rules}
+use Rattle.fields.specs.declared.rules.Rules.TheVariants.{Today, Stored}
+use Rattle.loading.specs.View.{rules_of, keeps_words, set_in, rules_in, as_loading, StoreSized, Starts, StartsSizing}
 use Rattle.loading.proofs.nothing_loaded.Goals as goal
 
 zeros-still : (n : ℕ) (m : List ℕ) → m ≡ replicate n 0 → m ≡ replicate (length m) 0
 zeros-still n m z = z ∙ ap (λ k. replicate k 0) (sym (ap length z ∙ length-replicate {A = ℕ} n 0))
 
-full-rules : (v : Bool) → rules_in v (replicate 8320 0) ≡ rules_of v
+full-rules : (v : Rules) → rules_in v (replicate 8320 0) ≡ rules_of v
 unfolding rules_in rules_of keeps_words
-full-rules true = refl
-full-rules false = ap (λ n. cond (leb 8320 n) Image.today Image.sizing) (length-replicate {A = ℕ} 8320 0)
+full-rules Stored = refl
+full-rules Today = ap (λ n. cond (leb 8320 n) Image.today Image.sizing) (length-replicate {A = ℕ} 8320 0)
 
-set-rules : (v : Bool) → v ≡ false → rules_in v (replicate 128 0) ≡ Image.sizing
+set-rules : (v : Rules) → v ≡ Today → rules_in v (replicate 128 0) ≡ Image.sizing
 unfolding rules_in keeps_words
-set-rules true e = absurd (true≢false e)
-set-rules false e = ap (λ n. cond (leb 8320 n) Image.today Image.sizing) (length-replicate {A = ℕ} 128 0)
+set-rules v e = rw e (ap (λ n. cond (leb 8320 n) Image.today Image.sizing) (length-replicate {A = ℕ} 128 0))
 
 pub returns : goal.returns
-unfolding Starts StartsSizing as_loading StoreSized MemoryWithin set_in
+unfolding Starts StartsSizing as_loading StoreSized set_in
 returns c =
-    (λ m z. (record { sized = inl (ap length z ∙ length-replicate {A = ℕ} 8320 0); memory_within = zeros-still 8320 m z }, rw (z, full-rules c.args.is_stored) (ap (λ w. record { rules = rules_of c.args.is_stored; memory = none; written = w; registers = none; delivery = no_delivery }) (none_in_zeros 128))), λ e m z. (record { sized = inr (ap length z ∙ length-replicate {A = ℕ} 128 0, e); memory_within = zeros-still 128 m z }, rw (z, set-rules c.args.is_stored e) (ap (λ w. record { rules = Image.sizing; memory = none; written = w; registers = none; delivery = no_delivery }) (none_in_zeros 128))))
+    (λ m z. (record { sized = inl (ap length z ∙ length-replicate {A = ℕ} 8320 0); memory_within = zeros-still 8320 m z }, rw (z, full-rules c.args.rules) (ap (λ w. record { rules = rules_of c.args.rules; memory = none; written = w; registers = none; delivery = no_delivery }) (none_in_zeros 128))), λ e m z. (record { sized = inr (ap length z ∙ length-replicate {A = ℕ} 128 0, e); memory_within = zeros-still 128 m z }, rw (z, set-rules c.args.rules e) (ap (λ w. record { rules = Image.sizing; memory = none; written = w; registers = none; delivery = no_delivery }) (none_in_zeros 128))))

@@ -1,30 +1,25 @@
 -- `ask` meets its contract. Assumes nothing.
-use Rattle.machine.proofs.AskLaws.{ask_delivery, ask_refused, ask_passed}
-use borrow.Author.Rules.{rules}
-use Rattle.std.proofs.Common.{ap}
+use Rattle.std.proofs.Common.{ap, subst, ◌∙◌}
 use Rattle.std.specs.Prelude.{not}
+use Rattle.questions.specs.Numbers.{Starts}
+use Rattle.answers.proofs.AnswerLaws.{is_kind, not_kind}
+use Rattle.machine.proofs.AskLaws.{ask_delivery, ask_refused, ask_passed, ask_stays, ask_numbered, numbered}
 use Rattle.machine.proofs.ask.Goals as goal
 
-pub is_delivery-requires : goal.is_delivery-requires
-is_delivery-requires c = search rules
+pub returns-then-not-is_delivery-clause-answer : goal.returns-then-not-is_delivery-clause-answer
+returns-then-not-is_delivery-clause-answer c = (ask_delivery _ _ _ _ _ c.is_delivery.ensures (ap not c.if-not-is_delivery.true) _ c.delivery_refused.ensures).0
 
-pub delivery_refused-requires : goal.delivery_refused-requires
-delivery_refused-requires c = search rules
+pub unwrap-requires : goal.unwrap-requires
+unwrap-requires c = numbered _ _ c.try_from.ensures (ask_numbered _ _ _ _ _ c.is_delivery.ensures (ap not c.if-not-is_delivery.false) _ _ _ _ _ _ c.run-x.ensures (is_kind _ _ _ c.eq.ensures c.if-eq.true))
 
-pub returns-then-not-is_delivery : goal.returns-then-not-is_delivery
-returns-then-not-is_delivery c = ask_delivery _ _ _ _ _ c.is_delivery.ensures (ap not c.if-not-is_delivery.true) _ c.delivery_refused.ensures
+pub returns-then-eq-clause-answer : goal.returns-then-eq-clause-answer
+returns-then-eq-clause-answer c = subst (Starts c.run-x.result.number) c.unwrap.ensures c.try_from.ensures ∙ ask_refused _ _ _ _ _ c.is_delivery.ensures (ap not c.if-not-is_delivery.false) _ _ _ _ _ _ c.run-x.ensures (is_kind _ _ _ c.eq.ensures c.if-eq.true)
 
-pub slice_bounds-run-end : goal.slice_bounds-run-end
-slice_bounds-run-end c = search rules
+pub returns-then-eq-clause-stays : goal.returns-then-eq-clause-stays
+returns-then-eq-clause-stays c = ask_stays _ _ _ _ _ c.is_delivery.ensures (ap not c.if-not-is_delivery.false) _ _ _ _ _ _ c.run-x.ensures
 
-pub run-x-requires : goal.run-x-requires
-run-x-requires c = search rules
+pub returns-clause-answer : goal.returns-clause-answer
+returns-clause-answer c = ask_passed _ _ _ _ _ c.is_delivery.ensures (ap not c.if-not-is_delivery.false) _ _ _ _ _ _ c.run-x.ensures (not_kind _ _ _ c.eq.ensures c.if-eq.false)
 
-pub overflow_cast-result : goal.overflow_cast-result
-overflow_cast-result c = search rules
-
-pub returns-then-x-eq0 : goal.returns-then-x-eq0
-returns-then-x-eq0 c = ask_refused _ _ _ _ _ c.is_delivery.ensures (ap not c.if-not-is_delivery.false) _ _ _ _ _ _ c.run-x.ensures c.if-x-eq0.true
-
-pub returns : goal.returns
-returns c = ask_passed _ _ _ _ _ c.is_delivery.ensures (ap not c.if-not-is_delivery.false) _ _ _ _ _ _ c.run-x.ensures c.if-x-eq0.false
+pub returns-clause-stays : goal.returns-clause-stays
+returns-clause-stays c = ask_stays _ _ _ _ _ c.is_delivery.ensures (ap not c.if-not-is_delivery.false) _ _ _ _ _ _ c.run-x.ensures

@@ -1,26 +1,13 @@
 -- `run_numbers` meets its contract. Assumes nothing.
-use mathlib.Core.Path.{sym, ◌∙◌}
-use borrow.Author.Rules.{rules}
-use Rattle.plain.proofs.PlainLaws.{sum_fits, refused_plainly, run_plainly}
+use Rattle.std.proofs.Common.{ap, rules}
+use Rattle.questions.specs.Numbers.{number_by, start_number}
+use Rattle.plain.proofs.PlainLaws.{sum_fits, run_plainly}
 use Rattle.plain.proofs.run_numbers.Goals as goal
-
-pub start_answer-n-requires : goal.start_answer-n-requires
-start_answer-n-requires c = search rules
-
-pub answer_of-requires : goal.answer_of-requires
-answer_of-requires c = search rules
-
-pub returns-then-n-ne0 : goal.returns-then-n-ne0
-returns-then-n-ne0 c = refused_plainly _ _ _ _ _ _ _ c.start_answer-n.ensures _ c.if-n-ne0.true c.answer_of.ensures
-
-pub run-y-requires : goal.run-y-requires
-run-y-requires c = sym c.start_answer-n.ensures ∙ c.if-n-ne0.false
 
 pub counted-requires : goal.counted-requires
 counted-requires c = sum_fits _ _ _ _ c.run-y.ensures.2 (search rules)
 
-pub answer_of-requires-2 : goal.answer_of-requires-2
-answer_of-requires-2 c = c.run-y.ensures.0.pointer_within
-
 pub returns : goal.returns
-returns c = run_plainly _ _ _ _ _ _ _ c.start_answer-n.ensures _ c.if-n-ne0.false _ _ _ _ c.run-y.ensures.0 c.run-y.ensures.1 c.run-y.ensures.2 _ c.counted.ensures c.answer_of-2.ensures
+returns c =
+    run_plainly _ _ _ _ _ _ _ c.start_answer.ensures _ (ap (number_by start_number) c.in_default.is) _ _ _ _ c.run-y.ensures.0 c.run-y.ensures.1 c.run-y.ensures.2 _ c.counted.ensures
+    c.answer_of-2.ensures

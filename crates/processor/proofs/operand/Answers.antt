@@ -1,21 +1,8 @@
 -- `operand` meets its contract. Assumes nothing.
-use borrow.Author.Rules.{rules}
 use Rattle.processor.proofs.FormLaws.{operand_direct_law, operand_33_law, operand_chain_law}
 use Rattle.std.proofs.Common.{ap}
 use Rattle.std.specs.Prelude.{not}
 use Rattle.processor.proofs.operand.Goals as goal
-
-pub first_address-first-requires : goal.first_address-first-requires
-first_address-first-requires c = search rules
-
-pub opcode-requires : goal.opcode-requires
-opcode-requires c = search rules
-
-pub entry_of-entry-requires : goal.entry_of-entry-requires
-entry_of-entry-requires c = search rules
-
-pub is_indirect-requires : goal.is_indirect-requires
-is_indirect-requires c = search rules
 
 pub returns-then-not-entry-is_indirect : goal.returns-then-not-entry-is_indirect
 returns-then-not-entry-is_indirect c =
@@ -24,9 +11,6 @@ returns-then-not-entry-is_indirect c =
 
 pub returns-then-entry-ipr : goal.returns-then-entry-ipr
 returns-then-entry-ipr c = operand_33_law _ _ _ c.opcode.ensures _ _ c.entry_of-entry.ensures.operand_same c.is_indirect.ensures (ap not c.if-not-entry-is_indirect.false) _ c.entry_of-entry.ensures.privilege_same c.if-entry-ipr.true
-
-pub effective-requires : goal.effective-requires
-effective-requires c = search rules
 
 pub returns : goal.returns
 returns c = operand_chain_law _ _ _ c.opcode.ensures _ _ c.entry_of-entry.ensures.operand_same c.is_indirect.ensures (ap not c.if-not-entry-is_indirect.false) _ c.entry_of-entry.ensures.privilege_same _ _ c.if-entry-ipr.false c.first_address-first.ensures.0 c.effective.ensures

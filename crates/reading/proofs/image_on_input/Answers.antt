@@ -1,7 +1,6 @@
 -- What `image_on_input` owes. Assumes nothing.
-use Rattle.std.proofs.Common.{rules}
-use Rattle.reading.proofs.ReadLaws.{images}
+use Rattle.reading.proofs.ReadLaws.{full_lent}
 use Rattle.reading.proofs.image_on_input.Goals as goal
 
-pub read_image-x-requires : goal.read_image-x-requires
-read_image-x-requires g c = search (rules, images)
+pub read_image-requires : goal.read_image-requires
+read_image-requires g c = full_lent _ c.requires

@@ -1,12 +1,8 @@
 -- `next` meets its contract. Assumes nothing.
-use borrow.Author.Rules.{rules}
 use Rattle.state.proofs.PassingLaws.{ready_passing, prs_in_range}
 use Rattle.run.proofs.TurnLaws.{next_law}
 use Rattle.state.specs.View.{as_machine}
 use Rattle.run.proofs.next.Goals as goal
-
-pub returns-then-budget-count : goal.returns-then-budget-count
-returns-then-budget-count c = search rules
 
 pub quick-requires : goal.quick-requires
 quick-requires c = let e = c.requires in (ready_passing _ _ _ _ e.0, prs_in_range _ _ _ _ e.0, e.1)

@@ -1,9 +1,4 @@
-use mathlib.Core.Path.{refl}
 use Prim.Native.Nat.{◌-◌, ◌*◌, ◌≤◌}
-use native.Mathlib.Omega.{arith}
-use borrow.Author.Rules.{rules}
-use Rattle.state.proofs.PassingLaws.{prs_in_range, ready_passing}
-use Rattle.run.proofs.RunLaws.{way_starts, way_faults, way_joins, way_ends, way_spent, total_fits, fault_within, answers}
 use Rattle.model.specs.Registers.{no_delivery}
 use Rattle.dispatch.specs.Plain.{plain_step}
 use Rattle.run.specs.Run.{OnTheWay}

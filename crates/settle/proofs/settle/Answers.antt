@@ -6,42 +6,21 @@ use Rattle.settle.proofs.settle.Goals as goal
 pub settle_fault-requires : goal.settle_fault-requires
 settle_fault-requires c = search (rules, settlings)
 
-pub shape_of-memory-then-number-ne0 : goal.shape_of-memory-then-number-ne0
-shape_of-memory-then-number-ne0 c = search (rules, settlings)
-
 pub returns-then-number-ne0 : goal.returns-then-number-ne0
 returns-then-number-ne0 c = search (rules, settlings)
-
-pub restore-x-requires : goal.restore-x-requires
-restore-x-requires c = search (rules, settlings)
-
-pub enum_told-1 : goal.enum_told-1
-enum_told-1 c = search (rules, settlings)
-
-pub enum_told-in-Halted : goal.enum_told-in-Halted
-enum_told-in-Halted c = search (rules, settlings)
-
-pub enum_known-end : goal.enum_known-end
-enum_known-end c = search (rules, settlings)
 
 pub settle_fault-requires-in-Faulted : goal.settle_fault-requires-in-Faulted
 settle_fault-requires-in-Faulted c = search (rules, settlings)
 
-pub shape_of-memory-in-Completed : goal.shape_of-memory-in-Completed
-shape_of-memory-in-Completed c = search (rules, settlings)
-
 pub returns-in-Completed : goal.returns-in-Completed
 returns-in-Completed c = search (rules, settlings)
-
-pub shape_of-memory-in-Halted : goal.shape_of-memory-in-Halted
-shape_of-memory-in-Halted c = search (rules, settlings)
 
 pub returns-in-Halted : goal.returns-in-Halted
 returns-in-Halted c = search (rules, settlings)
 
-pub shape_of-memory-in-Faulted : goal.shape_of-memory-in-Faulted
-shape_of-memory-in-Faulted c = search (rules, settlings)
-
 -- the step stands past the records that `search` enters
 pub returns-in-Faulted : goal.returns-in-Faulted
 returns-in-Faulted c = search (rules, settlings, c.requires.1)
+
+pub restore-x-requires : goal.restore-x-requires
+restore-x-requires c = search (rules, settlings)

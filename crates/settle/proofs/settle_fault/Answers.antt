@@ -6,17 +6,8 @@ use Rattle.settle.proofs.settle_fault.Goals as goal
 pub deliver-requires : goal.deliver-requires
 deliver-requires c = search (rules, faultings)
 
-pub handled-requires : goal.handled-requires
-handled-requires c = search (rules, faultings)
-
-pub shape_of-memory-then-deliver : goal.shape_of-memory-then-deliver
-shape_of-memory-then-deliver c = search (rules, faultings)
-
 pub returns-then-deliver : goal.returns-then-deliver
 returns-then-deliver c = search (rules, faultings)
-
-pub shape_of-memory : goal.shape_of-memory
-shape_of-memory c = search (rules, faultings)
 
 pub returns : goal.returns
 returns c = search (rules, faultings)

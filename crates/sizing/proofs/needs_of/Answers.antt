@@ -1,25 +1,12 @@
 -- `needs_of` meets its contract. Assumes nothing.
-use borrow.Author.Rules.{rules}
-use Rattle.sizing.proofs.SizingLaws.{answers}
+use Rattle.std.proofs.lemmas.Result.{err_from_is_err_and}
+use Rattle.sizing.proofs.SizingLaws.{refused_by_start, figures}
 use Rattle.sizing.proofs.needs_of.Goals as goal
 
-pub record_size_answer-n-requires : goal.record_size_answer-n-requires
-record_size_answer-n-requires c = search rules
-
-pub refused-requires : goal.refused-requires
-refused-requires c = search rules
-
-pub returns-then-n-ne0 : goal.returns-then-n-ne0
-returns-then-n-ne0 c = search (rules, answers, c.record_size_answer-n.ensures)
-
-pub records_in-requires : goal.records_in-requires
-records_in-requires c = search rules
-
-pub overflow_add-result : goal.overflow_add-result
-overflow_add-result c = search rules
-
-pub overflow_mul-result : goal.overflow_mul-result
-overflow_mul-result c = search rules
+pub returns-in_err-record_size_answer : goal.returns-in_err-record_size_answer
+returns-in_err-record_size_answer c =
+    let p = err_from_is_err_and c.from_residual.result c.from_residual.ensures.1 in
+    rw (p.1, p.2) (refused_by_start _ _ _ _ c.record_size_answer.result c.record_size_answer.ensures _ c.in_err-record_size_answer.was)
 
 pub returns : goal.returns
-returns c = search (rules, answers, c.record_size_answer-n.ensures)
+returns c = figures _ _ _ _ c.record_size_answer.result c.record_size_answer.ensures _ c.in_ok-record_size_answer.was _ c.records_in.ensures

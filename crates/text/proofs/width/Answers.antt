@@ -1,34 +1,10 @@
 -- `width` meets its contract. Assumes nothing.
-use borrow.Author.Rules.{rules}
-use Rattle.text.proofs.DecimalLaws.{length_decimal_digit, length_decimal}
+use Rattle.std.proofs.Common.{rules}
+use Rattle.text.proofs.DecimalLaws.{length_decimal_digit, length_decimal_log}
 use Rattle.text.proofs.width.Goals as goal
 
-pub returns-then-v-lt10 : goal.returns-then-v-lt10
-returns-then-v-lt10 c = search (rules, length_decimal_digit)
+pub returns-in-Some : goal.returns-in-Some
+returns-in-Some c = search (rules, length_decimal_log)
 
-pub returns-then-v-lt100 : goal.returns-then-v-lt100
-returns-then-v-lt100 c = (length_decimal 1 _ (search rules) (search rules) (search rules), search rules)
-
-pub returns-then-v-lt1000 : goal.returns-then-v-lt1000
-returns-then-v-lt1000 c = (length_decimal 2 _ (search rules) (search rules) (search rules), search rules)
-
-pub returns-then-v-lt10000 : goal.returns-then-v-lt10000
-returns-then-v-lt10000 c = (length_decimal 3 _ (search rules) (search rules) (search rules), search rules)
-
-pub returns-then-v-lt100000 : goal.returns-then-v-lt100000
-returns-then-v-lt100000 c = (length_decimal 4 _ (search rules) (search rules) (search rules), search rules)
-
-pub returns-then-v-lt1000000 : goal.returns-then-v-lt1000000
-returns-then-v-lt1000000 c = (length_decimal 5 _ (search rules) (search rules) (search rules), search rules)
-
-pub returns-then-v-lt10000000 : goal.returns-then-v-lt10000000
-returns-then-v-lt10000000 c = (length_decimal 6 _ (search rules) (search rules) (search rules), search rules)
-
-pub returns-then-v-lt100000000 : goal.returns-then-v-lt100000000
-returns-then-v-lt100000000 c = (length_decimal 7 _ (search rules) (search rules) (search rules), search rules)
-
-pub returns-then-v-lt1000000000 : goal.returns-then-v-lt1000000000
-returns-then-v-lt1000000000 c = (length_decimal 8 _ (search rules) (search rules) (search rules), search rules)
-
-pub returns : goal.returns
-returns c = (length_decimal 9 _ (search rules) (search rules) (search rules), search rules)
+pub returns-in-None : goal.returns-in-None
+returns-in-None c = search (rules, length_decimal_digit)

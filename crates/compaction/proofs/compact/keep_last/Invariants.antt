@@ -1,6 +1,5 @@
 use Prim.Native.Nat.{◌-◌}
-use borrow.Author.Rules.{rules}
-use Rattle.compaction.proofs.CompactLaws.{CompactedSoFar, compacts}
+use Rattle.compaction.proofs.CompactLaws.{CompactedSoFar}
 use Rattle.compaction.proofs.compact.keep_last.Given as goal
 
 abbrev pub invariant-loop-record : goal.invariant-loop-record

@@ -1,7 +1,6 @@
 use Prim.Native.Nat.{◌-◌}
 use lib.ListN.{length}
-use borrow.Author.Rules.{rules}
-use Rattle.compaction.proofs.LastLaws.{NotedSoFar, notes}
+use Rattle.compaction.proofs.LastLaws.{NotedSoFar}
 use Rattle.compaction.proofs.last.note_last.Given as goal
 
 abbrev pub invariant-loop-record : goal.invariant-loop-record

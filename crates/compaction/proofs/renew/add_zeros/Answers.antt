@@ -18,8 +18,8 @@ overflow_add-at c = search (rules, renews)
 pub overflow_sub-end : goal.overflow_sub-end
 overflow_sub-end c = search (rules, renews)
 
-pub move_up-requires : goal.move_up-requires
-move_up-requires c = search (rules, renews)
+pub move_bytes-requires : goal.move_bytes-requires
+move_bytes-requires c = search (rules, renews)
 
 pub clear-requires : goal.clear-requires
 clear-requires c = search (rules, renews)

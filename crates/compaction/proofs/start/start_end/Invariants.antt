@@ -1,11 +1,10 @@
 use Prim.Native.Nat.{◌-◌}
 use lib.ListN.{length}
-use borrow.Author.Rules.{rules}
-use Rattle.compaction.proofs.StartLaws.{StartSoFar, start_walk}
+use Rattle.compaction.proofs.StartLaws.{StartSoFar}
 use Rattle.compaction.proofs.start.start_end.Given as goal
 
-abbrev pub invariant-loop-at : goal.invariant-loop-at
-invariant-loop-at l = StartSoFar l.bytes l.at
+abbrev pub invariant-loop-record : goal.invariant-loop-record
+invariant-loop-record l = StartSoFar l.bytes l.at
 
-abbrev pub decreases-loop-at : goal.decreases-loop-at
-decreases-loop-at l = length l.bytes - l.at
+abbrev pub decreases-loop-record : goal.decreases-loop-record
+decreases-loop-record l = length l.bytes - l.at

@@ -1,13 +1,9 @@
 -- `door::is_door` meets its contract. Assumes nothing.
-use Rattle.doorways.proofs.DoorLaws.{is_door_law}
-use borrow.Author.Rules.{rules}
+use Rattle.doorways.proofs.DoorLaws.{door_passes, door_refused}
 use Rattle.doorways.proofs.door.is_door.Goals as goal
 
-pub descriptor_answer-requires : goal.descriptor_answer-requires
-descriptor_answer-requires c = search rules
+pub returns-in-Ok : goal.returns-in-Ok
+returns-in-Ok c = door_passes _ _ _ c.in-Ok.ensures c.leads_down.ensures
 
-pub leads_down-requires : goal.leads_down-requires
-leads_down-requires c = search rules
-
-pub returns : goal.returns
-returns c = search (rules, is_door_law)
+pub returns-in-Err : goal.returns-in-Err
+returns-in-Err c = door_refused _ _ _ c.in-Err.ensures

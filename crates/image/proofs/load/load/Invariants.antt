@@ -1,13 +1,10 @@
 use Prim.Native.Nat.{◌-◌}
-use native.Mathlib.Omega.{arith}
 use lib.ListN.{length}
-use borrow.Author.Rules.{rules}
 use Rattle.image.specs.Load.{LoadedSoFar}
-use Rattle.image.proofs.LoadLaws.{next_in_bytes, next_less, one_more, loads}
 use Rattle.image.proofs.load.load.Given as goal
 
-abbrev pub invariant-loop-n : goal.invariant-loop-n
-invariant-loop-n l = LoadedSoFar l.initial.x.loading l.initial.store l.bytes l.ended l.at l.x.loading l.store
+abbrev pub invariant-loop-outcome : goal.invariant-loop-outcome
+invariant-loop-outcome l = LoadedSoFar l.initial.loading l.initial.store l.bytes l.ended l.at l.loading l.store
 
-abbrev pub decreases-loop-n : goal.decreases-loop-n
-decreases-loop-n l = length l.bytes - l.at
+abbrev pub decreases-loop-outcome : goal.decreases-loop-outcome
+decreases-loop-outcome l = length l.bytes - l.at

@@ -1,16 +1,6 @@
--- `words::load_next` meets its contract. Assumes nothing.
-use borrow.Author.Rules.{rules}
-use Rattle.image.proofs.LoadLaws.{words, nexts}
+-- `word_records::load_next` meets its contract. Assumes nothing.
+use Rattle.image.proofs.LoadLaws.{words_as_one}
 use Rattle.image.proofs.word_records.load_next.Goals as goal
 
-pub load_words-used-requires : goal.load_words-used-requires
-load_words-used-requires c = search (rules, words, nexts)
-
 pub returns-then-used-ne0 : goal.returns-then-used-ne0
-returns-then-used-ne0 c = search (rules, words, nexts)
-
-pub load_record-requires : goal.load_record-requires
-load_record-requires c = search (rules, words, nexts)
-
-pub returns : goal.returns
-returns c = search (rules, words, nexts)
+returns-then-used-ne0 c = words_as_one _ _ _ _ _ _ c.load_words-used.ensures c.if-used-ne0.true

@@ -1,9 +1,7 @@
 use mathlib.Core.Path.{◌≡◌}
 use Prim.Native.Nat.{◌-◌, ◌≤◌}
 use lib.ListN.{length}
-use borrow.Author.Rules.{rules}
 use Rattle.image.specs.Load.{WordsLoaded}
-use Rattle.image.proofs.LoadLaws.{words}
 use Rattle.image.proofs.word_records.load_words.Given as goal
 
 abbrev pub invariant-loop-loading : goal.invariant-loop-loading

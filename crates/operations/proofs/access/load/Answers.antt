@@ -1,16 +1,10 @@
 -- `access::load` meets its contract. Assumes nothing.
-use Rattle.model.specs.Step as Step
-use Rattle.state.proofs.DoesLaws.{read_answered}
-use borrow.Author.Rules.{rules}
-use Rattle.operations.specs.Rest.{sets_a}
+use Rattle.std.proofs.Common.{refl, rules}
+use Rattle.operations.proofs.AccessLaws.{load_refused, load_completes}
 use Rattle.operations.proofs.access.load.Goals as goal
 
-pub read-requires : goal.read-requires
-read-requires c = search rules
+pub returns-in-Err : goal.returns-in-Err
+returns-in-Err c = load_refused _ _ _ _ _ _ _ _ c.in-Err.is c.read.ensures (search rules) refl _
 
-pub loaded-requires : goal.loaded-requires
-loaded-requires c = search rules
-
-pub returns : goal.returns
-unfolding Step.load sets_a
-returns c = read_answered _ _ _ _ _ _ c.read.ensures _ _ c.loaded.ensures
+pub returns-in-Ok : goal.returns-in-Ok
+returns-in-Ok c = load_completes _ _ _ _ _ _ _ c.in-Ok.is c.read.ensures _ _ _ c.result_of-a.ensures c.with_a.ensures c.completed.ensures

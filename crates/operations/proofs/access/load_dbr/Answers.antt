@@ -1,16 +1,10 @@
 -- `access::load_dbr` meets its contract. Assumes nothing.
-use Rattle.model.specs.Step as Step
-use Rattle.state.proofs.DoesLaws.{read_answered}
-use borrow.Author.Rules.{rules}
-use Rattle.operations.specs.Rest.{sets_dbr}
+use Rattle.std.proofs.Common.{refl, rules}
+use Rattle.operations.proofs.AccessLaws.{load_dbr_refused, load_dbr_takes}
 use Rattle.operations.proofs.access.load_dbr.Goals as goal
 
-pub read-requires : goal.read-requires
-read-requires c = search rules
+pub returns-in-Err : goal.returns-in-Err
+returns-in-Err c = load_dbr_refused _ _ _ _ _ _ _ _ c.in-Err.is c.read.ensures (search rules) refl
 
-pub dbr_loaded-requires : goal.dbr_loaded-requires
-dbr_loaded-requires c = search rules
-
-pub returns : goal.returns
-unfolding Step.load_dbr sets_dbr
-returns c = read_answered _ _ _ _ _ _ c.read.ensures _ _ c.dbr_loaded.ensures
+pub returns-in-Ok : goal.returns-in-Ok
+returns-in-Ok c = load_dbr_takes _ _ _ _ _ _ _ c.in-Ok.is c.read.ensures c.take_dbr.ensures

@@ -1,16 +1,10 @@
 -- `access::update` meets its contract. Assumes nothing.
-use borrow.Author.Rules.{rules}
-use Rattle.operations.proofs.AccessLaws.{update_reads}
+use Rattle.std.proofs.Common.{refl, rules}
+use Rattle.operations.proofs.AccessLaws.{update_refused, update_stores}
 use Rattle.operations.proofs.access.update.Goals as goal
 
-pub read-x-requires : goal.read-x-requires
-read-x-requires c = search rules
+pub returns-in-Err : goal.returns-in-Err
+returns-in-Err c = update_refused _ _ _ _ _ _ _ _ c.in-Err.is c.read-operand.ensures (search rules) refl
 
-pub updated-requires : goal.updated-requires
-updated-requires c = search rules
-
-pub shape_of-memory : goal.shape_of-memory
-shape_of-memory c = search rules
-
-pub returns : goal.returns
-returns c = update_reads _ _ _ _ _ (search rules) _ _ c.updated.ensures
+pub returns-in-Ok : goal.returns-in-Ok
+returns-in-Ok c = update_stores _ _ _ _ _ _ _ c.in-Ok.is c.read-operand.ensures _ _ c.add-value.ensures c.store.ensures

@@ -1,26 +1,16 @@
 -- `translate::translate` meets its contract. Assumes nothing.
-use mathlib.Core.Path.{refl}
-use borrow.Author.Rules.{rules}
-use Rattle.segments.proofs.TranslateLaws.{law_judged, translations}
-use Rattle.segments.specs.Translation.{descriptor_word}
+use Rattle.std.proofs.Common.{refl, rules, ltb-true}
+use Rattle.words.specs.View.{as_pointer}
+use Rattle.segments.specs.Translation.{as_dbr, descriptor_word}
+use Rattle.segments.proofs.TranslateLaws.{word_refused, word_passes}
 use Rattle.segments.proofs.translate.translate.Goals as goal
 
-pub returns-then-dbr-segment : goal.returns-then-dbr-segment
+pub returns-in_err-word_answer : goal.returns-in_err-word_answer
 unfolding descriptor_word
-returns-then-dbr-segment c = search (rules, translations)
-
-pub overflow_add-at : goal.overflow_add-at
-overflow_add-at c = search (rules, translations)
-
-pub offset_bounds-memory-at : goal.offset_bounds-memory-at
-offset_bounds-memory-at c = search (rules, translations)
-
-pub bounds-memory-at : goal.bounds-memory-at
-bounds-memory-at c = search (rules, translations)
-
-pub judge-requires : goal.judge-requires
-judge-requires c = search (rules, translations)
+returns-in_err-word_answer c =
+    let h = word_refused (as_dbr c.args.dbr) c.args.memory.now (as_pointer c.args.p) _ (ltb-true _ _ c.in_ok-answer.ensures) refl _ c.in_err-word_answer.ensures in
+    search rules
 
 pub returns : goal.returns
 unfolding descriptor_word
-returns c = law_judged _ _ _ _ (search rules) refl _ c.judge.ensures
+returns c = word_passes (as_dbr c.args.dbr) c.args.memory.now (as_pointer c.args.p) _ (ltb-true _ _ c.in_ok-answer.ensures) refl c.in_ok-word_answer.ensures

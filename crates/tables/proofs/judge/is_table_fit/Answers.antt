@@ -1,40 +1,16 @@
--- `judge::is_table_fit` meets its contract: at every turn the rows still to come fit just where all do. Assumes nothing.
-use mathlib.Core.Path.{◌≡◌}
-use Prim.Native.Nat.{◌-◌, ◌≤◌}
-use lib.ListN.{length, drop}
-use Rattle.model.specs.Questions.{all}
-use Rattle.model.specs.Brackets.{row_fits}
-use Rattle.tables.specs.View.{as_rows}
-use Rattle.tables.proofs.JudgeLaws.{fits_laws}
-use borrow.Author.Rules.{rules}
+-- `judge::is_table_fit` meets its contract. Assumes nothing.
+use Rattle.std.proofs.Common.{rules}
+use Rattle.std.proofs.lemmas.Iterator.{YieldsList-from_slice}
+use Rattle.std.proofs.lemmas.Iterator.Search.{all_from_yields_List}
+use Rattle.model.specs.Brackets as Brackets
+use Rattle.tables.specs.View.{as_row}
+use Rattle.tables.proofs.JudgeLaws.{fits_by_rows, too_many_rows}
 use Rattle.tables.proofs.judge.is_table_fit.Goals as goal
 
-pub returns-then-rows-gt32 : goal.returns-then-rows-gt32
-returns-then-rows-gt32 c = search (rules, fits_laws)
+pub returns-then-rows-le-MOST_ROWS : goal.returns-then-rows-le-MOST_ROWS
+returns-then-rows-le-MOST_ROWS c =
+    fits_by_rows _ _ _ c.if-rows-le-MOST_ROWS.true
+    (all_from_yields_List (λ x. Brackets.row_fits c.args.segments (as_row x)) _ _ c.all.result c.all.ensures.ran (YieldsList-from_slice c.args.rows.now (cc)) (λ x b q k. search rules))
 
-pub loop-i-init : goal.loop-i-init
-loop-i-init c = search (rules, fits_laws)
-
-pub offset_bounds-rows-i : goal.offset_bounds-rows-i
-offset_bounds-rows-i c = search (rules, fits_laws)
-
-pub bounds-rows-i : goal.bounds-rows-i
-bounds-rows-i c = search (rules, fits_laws)
-
-pub is_row_fit-requires : goal.is_row_fit-requires
-is_row_fit-requires c = search (rules, fits_laws)
-
-pub returns-then-not-is_row_fit : goal.returns-then-not-is_row_fit
-returns-then-not-is_row_fit c = search (rules, fits_laws)
-
-pub overflow_add-i : goal.overflow_add-i
-overflow_add-i c = search (rules, fits_laws)
-
-pub loop-i-smaller : goal.loop-i-smaller
-loop-i-smaller c = search (rules, fits_laws)
-
-pub loop-i-preserved : goal.loop-i-preserved
-loop-i-preserved c = search (rules, fits_laws)
-
-pub returns : goal.returns
-returns c = search (rules, fits_laws)
+pub returns-else-rows-le-MOST_ROWS : goal.returns-else-rows-le-MOST_ROWS
+returns-else-rows-le-MOST_ROWS c = too_many_rows _ _ c.if-rows-le-MOST_ROWS.false

@@ -7,12 +7,6 @@ use Rattle.writing.proofs.memory.put_word.Goals as goal
 pub returns-then-word-eq0 : goal.returns-then-word-eq0
 returns-then-word-eq0 c = search (rules, zero_word_put)
 
-pub put_marked-at_word-requires : goal.put_marked-at_word-requires
-put_marked-at_word-requires c = search rules
-
-pub put_number-requires : goal.put_number-requires
-put_number-requires c = search rules
-
 pub returns : goal.returns
 unfolding ascii
 returns c = search (rules, word_put)

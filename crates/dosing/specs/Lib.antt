@@ -1,0 +1,2 @@
+-- What the values of this crate stand for. Assumes nothing: these are definitions.
+pub mod Numbers

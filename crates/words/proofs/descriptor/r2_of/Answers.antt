@@ -1,8 +1,0 @@
--- `descriptor::r2_of` meets its contract. Assumes nothing.
-use borrow.Author.Rules.{rules}
-use Rattle.model.specs.Words.{descriptor_in, field}
-use Rattle.words.proofs.descriptor.r2_of.Goals as goal
-
-pub returns : goal.returns
-unfolding descriptor_in field
-returns c = search rules
