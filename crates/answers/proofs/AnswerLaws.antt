@@ -1,11 +1,8 @@
 -- Each reply as numbers, and back. Assumes nothing.
-use denote.Enum.Bare.{sameb, same_true}
-use mathlib.Core.Bool.{Bool, true, false, true≢false}
-use borrow.Author.Rules.{rules}
-use Rattle.answers.specs.contracts.Kind.{the_type}
-use mathlib.Core.Path.{◌≡◌, ◌∙◌, refl, sym, subst, ap}
+use mathlib.Core.Path.{◌≡◌, ◌∙◌, refl, subst, ap}
 use Prim.Native.Nat.{ℕ, ◌≤◌}
 use native.Mathlib.Omega.{arith}
+use borrow.Author.Tests.{ne_eqb}
 use Rattle.model.specs.Answers.{numbers, reply_numbers}
 use Rattle.model.specs.Run as Run
 use Rattle.words.specs.View.{PointerWithin}
@@ -13,9 +10,8 @@ use Rattle.words.specs.declared.pointer.Pointer.{Pointer}
 use Rattle.state.specs.declared.Core.{Core}
 use Rattle.state.specs.Reply.{as_reply, ReplyWithin, completed}
 use Rattle.state.specs.declared.reply.Reply.{Reply}
-use Rattle.answers.specs.Answer.{kind_number, AnswerFits, AnswersWith, reply_in, Replies}
+use Rattle.answers.specs.Answer.{AnswerFits, AnswersWith, reply_in, Replies}
 use Rattle.answers.specs.declared.Answered.{Answered}
-use Rattle.answers.specs.declared.Kind.{Kind}
 
 -- A REPLY AS NUMBERS
 abbrev nowhere : Pointer
@@ -32,27 +28,27 @@ nowhere_within : PointerWithin nowhere
 nowhere_within = record { ring_within = omega arith; segment_within = omega arith; word_within = omega arith }
 
 module _ (r : Reply) (c : Core) (p : Pointer) (k : ℕ) where
-  pub refused_answered : (n : ℕ) → r ≡ Reply.Refused n → n ≤ 255 → p ≡ nowhere → AnswersWith r c k (record { kind = Kind.Refused; core = c; number = n; pointer = p; count = 0; pointers = k })
+  pub refused_answered : (n : ℕ) → r ≡ Reply.Refused n → n ≤ 255 → p ≡ nowhere → AnswersWith r c k (record { kind = 0; core = c; number = n; pointer = p; count = 0; pointers = k })
   unfolding reply_numbers numbers
   refused_answered n e h f =
-      rw (e, f) (record { numbers_same = refl; core_same = refl; pointers_same = refl; fits = record { number_fits = h; count_fits = omega arith; pointer_fits = nowhere_within } })
+      rw (e, f) (record { numbers_same = refl; core_same = refl; pointers_same = refl; fits = record { kind_fits = omega arith; number_fits = h; count_fits = omega arith; pointer_fits = nowhere_within } })
 
-  pub spent_answered : (n : ℕ) → r ≡ Reply.Spent n → n ≤ 4294967295 → p ≡ nowhere → AnswersWith r c k (record { kind = Kind.Spent; core = c; number = 0; pointer = p; count = n; pointers = k })
+  pub spent_answered : (n : ℕ) → r ≡ Reply.Spent n → n ≤ 4294967295 → p ≡ nowhere → AnswersWith r c k (record { kind = 1; core = c; number = 0; pointer = p; count = n; pointers = k })
   unfolding reply_numbers numbers
   spent_answered n e h f =
-      rw (e, f) (record { numbers_same = refl; core_same = refl; pointers_same = refl; fits = record { number_fits = omega arith; count_fits = h; pointer_fits = nowhere_within } })
+      rw (e, f) (record { numbers_same = refl; core_same = refl; pointers_same = refl; fits = record { kind_fits = omega arith; number_fits = omega arith; count_fits = h; pointer_fits = nowhere_within } })
 
-  pub halted_answered : (n : ℕ) → r ≡ Reply.Halted n → n ≤ 4294967295 → p ≡ nowhere → AnswersWith r c k (record { kind = Kind.Halted; core = c; number = 0; pointer = p; count = n; pointers = k })
+  pub halted_answered : (n : ℕ) → r ≡ Reply.Halted n → n ≤ 4294967295 → p ≡ nowhere → AnswersWith r c k (record { kind = 2; core = c; number = 0; pointer = p; count = n; pointers = k })
   unfolding reply_numbers numbers
   halted_answered n e h f =
-      rw (e, f) (record { numbers_same = refl; core_same = refl; pointers_same = refl; fits = record { number_fits = omega arith; count_fits = h; pointer_fits = nowhere_within } })
+      rw (e, f) (record { numbers_same = refl; core_same = refl; pointers_same = refl; fits = record { kind_fits = omega arith; number_fits = omega arith; count_fits = h; pointer_fits = nowhere_within } })
 
 pub fault_answered : (r : Reply) (c : Core) (k i n : ℕ) (t : Pointer) → ReplyWithin r → r ≡ Reply.Fault i n t → i ≤ 255 → n ≤ 4294967295 →
-    AnswersWith r c k (record { kind = Kind.Fault; core = c; number = i; pointer = t; count = n; pointers = k })
+    AnswersWith r c k (record { kind = 3; core = c; number = i; pointer = t; count = n; pointers = k })
 unfolding reply_numbers numbers
 fault_answered r c k i n t w e h g =
     let within : PointerWithin t = subst ReplyWithin e w in
-    rw e (record { numbers_same = refl; core_same = refl; pointers_same = refl; fits = record { number_fits = h; count_fits = g; pointer_fits = within } })
+    rw e (record { numbers_same = refl; core_same = refl; pointers_same = refl; fits = record { kind_fits = omega arith; number_fits = h; count_fits = g; pointer_fits = within } })
 
 -- NUMBERS AS A REPLY
 pub reply_of_numbers : (r : Run.Reply) → reply_in (reply_numbers r) ≡ r
@@ -62,49 +58,22 @@ reply_of_numbers (Run.Reply.spent c) = refl
 reply_of_numbers (Run.Reply.halted c) = refl
 reply_of_numbers (Run.Reply.fault n c p) = refl
 
-module _ (x : Answered) where
-  pub replies_refused : x.kind ≡ Kind.Refused → Replies x (Reply.Refused x.number)
+module _ (x : Answered) (k : ℕ) (e : k ≡ x.kind) where
+  pub replies_refused : k ≡ 0 → Replies x (Reply.Refused x.number)
   unfolding reply_in
-  replies_refused h = record { same = rw h; within = tt }
+  replies_refused h = record { same = rw (← e, h); within = tt }
 
-  pub replies_spent : x.kind ≡ Kind.Spent → Replies x (Reply.Spent x.count)
+  pub replies_spent : k ≡ 1 → Replies x (Reply.Spent x.count)
   unfolding reply_in
-  replies_spent h = record { same = rw h; within = tt }
+  replies_spent h = record { same = rw (← e, h); within = tt }
 
-  pub replies_halted : x.kind ≡ Kind.Halted → Replies x (Reply.Halted x.count)
+  pub replies_halted : k ≡ 2 → Replies x (Reply.Halted x.count)
   unfolding reply_in
-  replies_halted h = record { same = rw h; within = tt }
+  replies_halted h = record { same = rw (← e, h); within = tt }
 
-  pub replies_fault : x.kind ≡ Kind.Fault → AnswerFits x → Replies x (Reply.Fault x.number x.count x.pointer)
+  pub replies_fault : (k ≡ 0 → ⊥) → (k ≡ 1 → ⊥) → (k ≡ 2 → ⊥) → AnswerFits x → Replies x (Reply.Fault x.number x.count x.pointer)
   unfolding reply_in
-  replies_fault h f = record { same = rw h; within = f.pointer_fits }
-
--- A KIND by its number
-pub kind_refused : (k : Kind) → kind_number k ≡ 0 → k ≡ Kind.Refused
-kind_refused Kind.Refused e = refl
-kind_refused Kind.Spent e = absurd (omega (arith, e))
-kind_refused Kind.Halted e = absurd (omega (arith, e))
-kind_refused Kind.Fault e = absurd (omega (arith, e))
-
-pub kind_fault : (k : Kind) → kind_number k ≡ 3 → k ≡ Kind.Fault
-kind_fault Kind.Refused e = absurd (omega (arith, e))
-kind_fault Kind.Spent e = absurd (omega (arith, e))
-kind_fault Kind.Halted e = absurd (omega (arith, e))
-kind_fault Kind.Fault e = refl
-
--- and by the derived comparison
-module _ (k : Kind) where
-  pub is_kind : (j : Kind) (b : Bool) → b ≡ sameb the_type k j → b ≡ true → k ≡ j
-  is_kind j b e f = same_true the_type (search rules) k j (sym e ∙ f)
-
-  pub not_kind : (j : Kind) (b : Bool) → b ≡ sameb the_type k j → b ≡ false → k ≡ j → ⊥
-  not_kind j b e f g = true≢false (sym (sameb_same j) ∙ ap (λ i. sameb the_type i j) (sym g) ∙ sym e ∙ f)
-    where
-      sameb_same : (i : Kind) → sameb the_type i i ≡ true
-      sameb_same Kind.Refused = refl
-      sameb_same Kind.Spent = refl
-      sameb_same Kind.Halted = refl
-      sameb_same Kind.Fault = refl
+  replies_fault h i j f = record { same = rw (← e, ne_eqb k 0 h, ne_eqb k 1 i, ne_eqb k 2 j); within = f.pointer_fits }
 
 -- HOW MANY STEPS it says
 pub count_completed : (r : Reply) → (reply_numbers (as_reply r)).count ≡ completed r

@@ -17,10 +17,11 @@ kind_number Kind.Halted = 2
 kind_number Kind.Fault = 3
 
 abbrev pub as_numbers : Answered → Numbers
-as_numbers x = record { kind = kind_number x.kind; number = x.number; count = x.count; pointer = as_pointer x.pointer }
+as_numbers x = record { kind = x.kind; number = x.number; count = x.count; pointer = as_pointer x.pointer }
 
 -- its numbers fit what a host gets
 pub record AnswerFits (x : Answered) : Type 0 where
+  pub kind_fits : x.kind ≤ 3
   pub number_fits : x.number ≤ 255
   pub count_fits : x.count ≤ 4294967295
   pub pointer_fits : PointerWithin x.pointer

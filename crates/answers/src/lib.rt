@@ -29,9 +29,10 @@ impl From<Kind> for u32 {
 // An answer as numbers, and the core after it; what a kind leaves free is 0. A single step is spent where it completes. Numbers that C
 // gets side by side stand apart here: else the compiler loads both at once where they were stored one by one just before, and waits
 // for it.
+// Stays: a kind is its number, of 64 bits as the others are: a `Kind` would leave padding, which costs a single step (docs/PERFORMANCE.md).
 #[derive(Clone, Copy)]
 pub struct Answered {
-    pub kind: Kind,
+    pub kind: u64,
     pub core: Core,
     pub number: u64,
     pub pointer: Pointer,
@@ -44,7 +45,7 @@ pub fn answer_of(reply: Reply, core: Core, pointers: u64) -> Answered
     ensures { AnswersWith reply core pointers result }
 {
     let free = Answered {
-        kind: Kind::Refused,
+        kind: Kind::Refused as u64,
         core,
         number: 0,
         pointer: Pointer::default(),
@@ -57,17 +58,17 @@ pub fn answer_of(reply: Reply, core: Core, pointers: u64) -> Answered
             ..free
         },
         Reply::Spent(count) => Answered {
-            kind: Kind::Spent,
+            kind: Kind::Spent as u64,
             count: count as u64,
             ..free
         },
         Reply::Halted(count) => Answered {
-            kind: Kind::Halted,
+            kind: Kind::Halted as u64,
             count: count as u64,
             ..free
         },
         Reply::Fault(n, count, pointer) => Answered {
-            kind: Kind::Fault,
+            kind: Kind::Fault as u64,
             number: n as u64,
             pointer,
             count: count as u64,
@@ -82,9 +83,9 @@ pub fn reply_of(x: Answered) -> Reply
     ensures { Replies x result }
 {
     match x.kind {
-        Kind::Refused => Reply::Refused(x.number as u8),
-        Kind::Spent => Reply::Spent(x.count as u32),
-        Kind::Halted => Reply::Halted(x.count as u32),
-        Kind::Fault => Reply::Fault(x.number as u8, x.count as u32, x.pointer),
+        0 => Reply::Refused(x.number as u8),
+        1 => Reply::Spent(x.count as u32),
+        2 => Reply::Halted(x.count as u32),
+        _ => Reply::Fault(x.number as u8, x.count as u32, x.pointer),
     }
 }

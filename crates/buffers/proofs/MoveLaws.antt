@@ -1,7 +1,14 @@
 -- What stands where in a buffer some of whose bytes were moved towards its front. Assumes nothing.
-use Rattle.std.proofs.Common.{◌≡◌, sym, ◌∙◌, ap, List, ◌++◌, ℕ, ◌+◌, ◌≤◌, length, take, drop, length-drop, arith}
+use Rattle.std.proofs.Common.{◌≡◌, sym, ◌∙◌, ap, List, ◌++◌, ℕ, ◌+◌, ◌≤◌, length, take, drop, length-drop, take-append-drop, arith}
 use Rattle.std.proofs.Math.Seq.{take-add, drop_at, length-take-le, length-paste, take-paste, drop-paste}
 use Rattle.buffers.specs.Move.{bytes_moved}
+
+-- bytes that stand there already
+pub moved_nowhere : (l : List ℕ) (from to : ℕ) → from ≡ to → (n : ℕ) → l ≡ bytes_moved from to n l
+unfolding bytes_moved
+moved_nowhere l from to e n =
+    sym (take-append-drop (to + n) l)
+    ∙ ap (λ xs. xs ++ drop (to + n) l) (take-add to n l ∙ ap (λ k. take to l ++ take n (drop k l)) (sym e))
 
 module _ (l : List ℕ) (from to : ℕ) (n : ℕ) (below : to ≤ from) (fits : from + n ≤ length l) where
   size_left : n ≤ length (drop from l)

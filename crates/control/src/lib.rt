@@ -37,7 +37,7 @@ pub fn transfer(core: Core, code: Descriptor, memory: &[u64], opcode: u8, t: Poi
         return state::completed(core, code);
     }
     match segments::access::look(Use::Transfer, core.dbr, memory, core.ipr, t) {
-        Err(fault) => state::faulted(core, code, fault, t),
+        Err(fault) => state::faulted_by(core, code, fault, t),
         Ok(d) => entered(core, t, d),
     }
 }
@@ -65,7 +65,7 @@ pub fn call(core: Core, code: Descriptor, prs: &mut [u16; 24], memory: &[u64], t
     ensures { Does core code (as_pointers prs.old) memory.now (Step.call (as_registers core prs.old) (as_pointer t)) result (as_pointers prs.new) memory.now }
 {
     match check(core.dbr, memory, core.ipr, t) {
-        Err(fault) => state::faulted(core, code, fault, t),
+        Err(fault) => state::faulted_by(core, code, fault, t),
         Ok(entry) => {
             state::prs::set_stack_base(prs, core.ipr.ring, entry.ring);
             let p = Pointer {
@@ -104,7 +104,7 @@ pub fn return_to(
     ensures { Does core code (as_pointers prs.old) memory.now (Step.return (as_registers core prs.old) (as_pointer t)) result (as_pointers prs.new) memory.now }
 {
     match segments::access::look(Use::Return, core.dbr, memory, t, t) {
-        Err(fault) => state::faulted(core, code, fault, t),
+        Err(fault) => state::faulted_by(core, code, fault, t),
         Ok(d) => {
             raise_rings(prs, t.ring);
             entered(core, t, d)

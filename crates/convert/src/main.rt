@@ -1,7 +1,7 @@
 // The laptop's program for stored images: an old image on standard input, the new one on standard output.
 #![tactic(auto)]
 
-ghost use Rattle.std.specs.Prelude.{◌≡◌, ◌+◌, ◌≤◌, length, IfOk};
+ghost use Rattle.std.specs.Prelude.{◌≡◌, ◌+◌, ◌≤◌, length, IfOk, MatchResult};
 ghost use Rattle.convert.specs.Turn.{RoomLeft, TurnWithin, WithinAfter};
 
 use crate::error::ConvertError;
@@ -57,7 +57,7 @@ fn read_more(
     size: usize,
 ) -> Result<Piece, InputFailed>
     requires { size + 5 ≤ length buffer.old }
-    ensures { IfOk result (λ piece. (size ≤ piece.size) × (piece.size + 5 ≤ length buffer.new)) }
+    ensures { MatchResult result (λ piece. (size ≤ piece.size) × (piece.size + 5 ≤ length buffer.new)) (λ failed. (size ≤ failed.size) × (failed.size + 5 ≤ length buffer.new)) }
 {
     let limit = buffer.len() - 5;
     streams::read_piece(rt, &mut buffer[..limit], size)

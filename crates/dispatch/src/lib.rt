@@ -61,22 +61,22 @@ pub fn perform(
         33 => control::return_to(core, code, prs, memory, t),
         40 => {
             if core.ipr.ring != 0 {
-                return state::faulted(core, code, Fault::Privileged, ipr);
+                return state::faulted_by(core, code, Fault::Privileged, ipr);
             }
             operations::access::load_dbr(core, code, memory, t)
         }
         41 => {
             if ipr.ring != 0 { // 33 of HLT
-                return state::faulted(core, code, Fault::Privileged, ipr);
+                return state::faulted_by(core, code, Fault::Privileged, ipr);
             }
             halt(core, code)
         }
         42 => {
             if ipr.ring != 0 { // 33 of RCU
-                return state::faulted(core, code, Fault::Privileged, ipr);
+                return state::faulted_by(core, code, Fault::Privileged, ipr);
             }
             state::stopped(core, code, t) // RCU is performed outside the loop
         }
-        _ => state::faulted(core, code, Fault::UnknownOpcode, ipr),
+        _ => state::faulted_by(core, code, Fault::UnknownOpcode, ipr),
     }
 }

@@ -18,7 +18,6 @@ use Rattle.host.specs.Record.{pointer_of, base_of, machine_of, InRecord}
 use Rattle.host.specs.declared.record.DescriptorBase.{DescriptorBase}
 use Rattle.host.specs.declared.record.Pointer.{Pointer}
 use Rattle.host.proofs.RecordLaws.{registers_same}
-use Rattle.answers.specs.Answer.{kind_number}
 use Rattle.answers.specs.declared.Answered as Numbered
 use Rattle.machine.specs.Answered.{pointers_read, AnsweredAs}
 use Rattle.entry.specs.Call.{together, CoreSays, CallSays}
@@ -34,7 +33,7 @@ module _ (a : ℕ) (dbr : DescriptorBase) (ipr : Pointer) (v : Delivery) (prs me
 
   module _ (single : Bool) (b : ℕ) (x : Numbered.Answered) (prs_now memory_now : List ℕ)
       (s : CoreSays (as_delivery v) single b (record { a = a; dbr = d; ipr = p }) prs memory x prs_now memory_now) where
-    pub call_says : (k : ℕ) → k ≡ kind_number x.kind → (q r : Pointer) (c : DescriptorBase) → pointer_of q ≡ as_pointer x.pointer → pointer_of r ≡ as_pointer x.core.ipr →
+    pub call_says : (k : ℕ) → k ≡ x.kind → (q r : Pointer) (c : DescriptorBase) → pointer_of q ≡ as_pointer x.pointer → pointer_of r ≡ as_pointer x.core.ipr →
         base_of c ≡ as_dbr x.core.dbr →
         CallSays single b (together a dbr ipr v prs) memory (record { kind = k; number = x.number; count = x.count; pointer = q; pointer_words = x.pointers }) (together x.core.a c r v prs_now) memory_now
     call_says k j q r c g h i =

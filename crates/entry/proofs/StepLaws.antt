@@ -9,7 +9,6 @@ use Rattle.model.specs.Registers.{Delivery}
 use Rattle.model.specs.Questions.{delivery_in_range}
 use Rattle.model.proofs.BranchLaws.{and_left, and_right}
 use Rattle.state.specs.declared.Core.{Core}
-use Rattle.answers.specs.Answer.{kind_number}
 use Rattle.answers.specs.declared.Answered.{Answered}
 use Rattle.machine.specs.Answered.{AnsweredAs}
 use Rattle.plain.specs.Plain.{PlainAs}
@@ -25,13 +24,13 @@ module _ (v : Delivery) (single : Bool) (b : ℕ) (d : Bool) (e : d ≡ delivery
       subst (λ z. CoreSays v z b c prs memory y prs_now memory_now) (sym (and_left single (eqb b 1) f))
       (subst (λ z. CoreSays v true z c prs memory y prs_now memory_now) (sym (eqb-true b 1 (and_right single (eqb b 1) f))) s)
 
-  pub step_is_plain : (kind_number x.kind ≡ 3 → ⊥) → CoreSays v single b c prs memory x prs_then memory_then
+  pub step_is_plain : (x.kind ≡ 3 → ⊥) → CoreSays v single b c prs memory x prs_then memory_then
   step_is_plain g =
       as_asked x prs_then memory_then
       (core_says v true 1 c prs memory [] x prs_then memory_then []
       (plain_answers v (sym e ∙ and_right (single && eqb b 1) d h) true 1 c prs memory [] x prs_then memory_then [] w g))
 
-  pub step_again : kind_number x.kind ≡ 3 → (trace : List ℕ) (y : Answered) (prs_now memory_now trace_now : List ℕ) → AnsweredAs v true 1 x.core prs_then memory_then trace y prs_now memory_now trace_now →
+  pub step_again : x.kind ≡ 3 → (trace : List ℕ) (y : Answered) (prs_now memory_now trace_now : List ℕ) → AnsweredAs v true 1 x.core prs_then memory_then trace y prs_now memory_now trace_now →
       CoreSays v single b c prs memory y prs_now memory_now
   step_again g trace y prs_now memory_now trace_now s =
       as_asked y prs_now memory_now

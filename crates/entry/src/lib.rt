@@ -45,7 +45,7 @@ fn run_core(
     let mut none: [u64; 0] = [];
     if single & (budget == 1) & host::start::is_delivery(delivery) {
         let mut x = plain::step(core, prs, memory);
-        if x.kind == Kind::Fault {
+        if x.kind == Kind::Fault as u64 {
             x = machine::run(
                 x.core.a,
                 x.core.dbr.address,
@@ -102,7 +102,7 @@ fn run_fields(
     let x = run_core(prs, memory, core, delivery, budget, single);
     Answered {
         answer: Answer {
-            kind: u32::from(x.kind),
+            kind: x.kind as u32,
             number: x.number as u32,
             count: x.count as u32,
             pointer: host::record::from_core(x.pointer),

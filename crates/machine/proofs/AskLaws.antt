@@ -22,9 +22,6 @@ use Rattle.host.specs.Record.{machine_of, delivery_of, Converted}
 use Rattle.host.specs.declared.record.Registers.{Registers}
 use Rattle.host.proofs.RecordLaws.{delivery_answer}
 use Rattle.run.specs.Run.{run_by}
-use Rattle.answers.specs.Answer.{kind_number}
-use Rattle.answers.specs.declared.Kind.TheVariants as Kind
-use Rattle.answers.proofs.AnswerLaws.{kind_refused}
 use Rattle.answers.specs.declared.Answered.{Answered}
 use Rattle.plain.specs.Plain.{PlainAs}
 
@@ -62,7 +59,7 @@ module _ (v : Delivery) (c : Core) (prs memory : List ℕ) (b : Bool) (e : b ≡
     start = same_start v no_delivery (sym e ∙ not-false b h) (unfold delivery_in_range in refl) given
 
     -- the answer's number is that of the first no, whichever kind it has
-    asked : (n : ℕ) → start_questions no_delivery given ≡ n → (kind_number x.kind ≡ 0 → x.number ≡ n) × ((kind_number x.kind ≡ 0 → ⊥) → n ≡ 0) × (as_machine c prs_now memory_now ≡ given)
+    asked : (n : ℕ) → start_questions no_delivery given ≡ n → (x.kind ≡ 0 → x.number ≡ n) × ((x.kind ≡ 0 → ⊥) → n ≡ 0) × (as_machine c prs_now memory_now ≡ given)
     unfolding reply_numbers numbers ran run_by
     asked zero f =
         let r = w.runs f in
@@ -73,22 +70,22 @@ module _ (v : Delivery) (c : Core) (prs memory : List ℕ) (b : Bool) (e : b ≡
         (λ _. ap (λ (q : Numbers). q.number) r.numbers_same, λ z. absurd (z (ap (λ (q : Numbers). q.kind) r.numbers_same)), ap₂ (λ p m. as_machine c p m) r.prs_same r.memory_same)
 
     -- a refusal has the number of one of 1 to 4
-    pub ask_numbered : x.kind ≡ Kind.Refused → (0 < x.number) × (x.number ≤ 4)
+    pub ask_numbered : x.kind ≡ 0 → (0 < x.number) × (x.number ≤ 4)
     unfolding reply_numbers numbers ran run_by
     ask_numbered z = by_answer _ refl
       where
         by_answer : (n : ℕ) → start_questions no_delivery given ≡ n → (0 < x.number) × (x.number ≤ 4)
-        by_answer zero f = let k = ap (λ (q : Numbers). q.kind) (w.runs f).numbers_same in absurd (omega (arith, ap kind_number z, k))
-        by_answer (suc n) f = let e = (asked _ f).0 (ap kind_number z) in (omega (arith, e), omega (arith, e, f, start_small no_delivery given))
+        by_answer zero f = let k = ap (λ (q : Numbers). q.kind) (w.runs f).numbers_same in absurd (omega (arith, z, k))
+        by_answer (suc n) f = let e = (asked _ f).0 (z) in (omega (arith, e), omega (arith, e, f, start_small no_delivery given))
 
     pub ask_stays : as_machine c prs_now memory_now ≡ given
     ask_stays = (asked _ refl).2
 
-    pub ask_refused : x.kind ≡ Kind.Refused → x.number ≡ start_questions v given
-    ask_refused z = (asked _ refl).0 (ap kind_number z) ∙ sym start
+    pub ask_refused : x.kind ≡ 0 → x.number ≡ start_questions v given
+    ask_refused z = (asked _ refl).0 (z) ∙ sym start
 
-    pub ask_passed : (x.kind ≡ Kind.Refused → ⊥) → 0 ≡ start_questions v given
-    ask_passed z = sym (start ∙ (asked _ refl).1 (λ k. z (kind_refused x.kind k)))
+    pub ask_passed : (x.kind ≡ 0 → ⊥) → 0 ≡ start_questions v given
+    ask_passed z = sym (start ∙ (asked _ refl).1 z)
 
 -- A HOST'S RECORD
 module _ (r : Registers) (c : Core) (e : Converted r c) (memory : List ℕ) where

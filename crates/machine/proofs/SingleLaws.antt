@@ -21,7 +21,6 @@ use Rattle.state.specs.declared.Core.{Core}
 use Rattle.host.specs.Record.{InRecord}
 use Rattle.dispatch.specs.Plain.{plain_step}
 use Rattle.run.specs.Run.{run_by, trace_by, last_by}
-use Rattle.answers.specs.Answer.{kind_number}
 use Rattle.answers.specs.declared.Answered.{Answered}
 use Rattle.machine.specs.Answered.{pointers_read, AnsweredAs}
 use Rattle.plain.specs.Plain.{PlainAs}
@@ -102,7 +101,7 @@ module _ (v : Delivery) (h : delivery_in_range v ≡ true) (single : Bool) (b : 
         pointers_same = r.none_read ∙ none_read v single b (suc n) given (sym s) (λ z. omega (arith, z));
       }
 
-  answers_run : start_questions no_delivery given ≡ 0 → (kind_number x.kind ≡ 3 → ⊥) → AnsweredAs v single b c prs memory trace x prs_now memory_now trace_now
+  answers_run : start_questions no_delivery given ≡ 0 → (x.kind ≡ 3 → ⊥) → AnsweredAs v single b c prs memory trace x prs_now memory_now trace_now
   unfolding total ran
   answers_run e k =
       let r = w.runs e in
@@ -123,7 +122,7 @@ module _ (v : Delivery) (h : delivery_in_range v ≡ true) (single : Bool) (b : 
         pointers_same = r.pointers_same ∙ ap₂ (λ t l. cond single (total_of t + l) (total_of t)) words last;
       }
 
-  pub plain_answers : (kind_number x.kind ≡ 3 → ⊥) → AnsweredAs v single b c prs memory trace x prs_now memory_now trace_now
+  pub plain_answers : (x.kind ≡ 3 → ⊥) → AnsweredAs v single b c prs memory trace x prs_now memory_now trace_now
   plain_answers k = by_start (start_questions no_delivery given) refl
     where
       by_start : (n : ℕ) → start_questions no_delivery given ≡ n → AnsweredAs v single b c prs memory trace x prs_now memory_now trace_now
@@ -132,7 +131,7 @@ module _ (v : Delivery) (h : delivery_in_range v ≡ true) (single : Bool) (b : 
 
 -- A FIRST STEP THAT STOPS
 pub stops_at_once : (single : Bool) (c : Core) (prs memory trace : List ℕ) (x : Answered) (prs_now memory_now trace_now : List ℕ) → PlainAs single 1 c prs memory trace x prs_now memory_now trace_now →
-    kind_number x.kind ≡ 3 → as_machine x.core prs_now memory_now ≡ as_machine c prs memory
+    x.kind ≡ 3 → as_machine x.core prs_now memory_now ≡ as_machine c prs memory
 unfolding reply_numbers numbers run_by Run.run_on ran
 stops_at_once single c prs memory trace x prs_now memory_now trace_now w k = by_start (start_questions no_delivery given) refl
   where

@@ -30,7 +30,7 @@ fn ask(
         return Err(host::start::delivery_refused(memory));
     }
     let x = plain::run(core, prs, memory, 0, &mut []);
-    if x.kind == Kind::Refused {
+    if x.kind == Kind::Refused as u64 {
         return Err(StartError::try_from(x.number as u8).unwrap());
     }
     Ok(())

@@ -55,9 +55,9 @@ fn needs_on_input(rt: &(impl Input + Eprint)) -> Option<Needs> {
     match reading::read_image(rt, &mut set) {
         Ok(read) => match sizing::needs_of(read.start, read.length) {
             Ok(needs) => Some(needs),
-            Err(error) => Some(sizing::refused(ImageError::Start(error))),
+            Err(error) => Some(sizing::refused_by(ImageError::Start(error))),
         },
-        Err(ReadError::Refused(error)) => Some(sizing::refused(ImageError::Load(error))),
+        Err(ReadError::Refused(error)) => Some(sizing::refused_by(ImageError::Load(error))),
         Err(ReadError::InputFailed) => None,
     }
 }

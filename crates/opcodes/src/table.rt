@@ -5,15 +5,13 @@ ghost use Rattle.opcodes.specs.Table.{Told};
 
 // A column for each thing that an entry says, with bit k for opcode k. No opcode has a number of 64 or more.
 // As bits of whole numbers the table needs no memory: a look-up is a constant and a shift.
-const OPERANDS: u64 = 5510560678910;
-
-const PRIVILEGES: u64 = 7696581394432;
-
-const READERS: u64 = 5497558139898;
-
-const WRITERS: u64 = 131588;
-
-const MOVERS: u64 = 4411048853504;
+const OPCODES: [u64; 5] = [
+    5510560678910,
+    7696581394432,
+    5497558139898,
+    131588,
+    4411048853504,
+];
 
 // What the table says of an opcode: an operand, ring 0 alone, and how it uses the operand's segment.
 #[derive(Clone, Copy, Default)]
@@ -43,10 +41,10 @@ pub fn entry_of(opcode: u8) -> Entry
         return Entry::default();
     }
     Entry {
-        operand: is_in(OPERANDS, k),
-        privileged: is_in(PRIVILEGES, k),
-        reads: is_in(READERS, k),
-        writes: is_in(WRITERS, k),
-        moves: is_in(MOVERS, k),
+        operand: is_in(OPCODES[0], k),
+        privileged: is_in(OPCODES[1], k),
+        reads: is_in(OPCODES[2], k),
+        writes: is_in(OPCODES[3], k),
+        moves: is_in(OPCODES[4], k),
     }
 }

@@ -24,7 +24,7 @@ pub fn load(core: Core, code: Descriptor, memory: &[u64], opcode: u8, t: Pointer
     ensures { DoesWithAnyPrs core code memory.now (λ r. Step.load (operation_result opcode) r (as_pointer t)) result memory.now }
 {
     match segments::access::read(Use::Read, core.dbr, memory, t) {
-        Err(fault) => state::faulted(core, code, fault, t),
+        Err(fault) => state::faulted_by(core, code, fault, t),
         Ok(read) => {
             let a = opcodes::arithmetic::result_of(opcode, core.a, read.word);
             state::completed(state::with_a(core, a), code)
@@ -39,7 +39,7 @@ pub fn store(core: Core, code: Descriptor, memory: &mut [u64], t: Pointer, value
 {
     let written = segments::access::write(core.dbr, memory, t, value);
     if let Err(fault) = written {
-        return state::faulted(core, code, fault, t);
+        return state::faulted_by(core, code, fault, t);
     }
     state::completed(core, code)
 }
@@ -51,7 +51,7 @@ pub fn update(core: Core, code: Descriptor, memory: &mut [u64], t: Pointer) -> A
 {
     let operand = segments::access::read(Use::Read, core.dbr, memory, t);
     match operand {
-        Err(fault) => state::faulted(core, code, fault, t),
+        Err(fault) => state::faulted_by(core, code, fault, t),
         Ok(read) => {
             let value = opcodes::arithmetic::add(read.word, 1);
             store(core, code, memory, t, value)
@@ -95,7 +95,7 @@ pub fn load_dbr(core: Core, code: Descriptor, memory: &[u64], t: Pointer) -> Aft
     ensures { DoesWithAnyPrs core code memory.now (λ r. Step.load_dbr (length memory.now) r (as_pointer t)) result memory.now }
 {
     match segments::access::read(Use::Read, core.dbr, memory, t) {
-        Err(fault) => state::faulted(core, code, fault, t),
+        Err(fault) => state::faulted_by(core, code, fault, t),
         Ok(read) => take_dbr(core, code, memory.len(), t, read.word),
     }
 }
@@ -105,7 +105,7 @@ fn take_dbr(core: Core, code: Descriptor, words: usize, t: Pointer, w: u64) -> A
     ensures { DoesAnywhere core code (sets_dbr words w (as_pointer t)) result }
 {
     match dbr_answer(w, words) {
-        Err(fault) => state::faulted(core, code, fault, t),
+        Err(fault) => state::faulted_by(core, code, fault, t),
         Ok(dbr) => state::completed(state::with_dbr(core, dbr), code),
     }
 }

@@ -30,17 +30,23 @@ pub struct Needs {
 }
 
 #[tactic(auto, unfolding(model::specs::Needs::needs_refused))]
-pub fn refused(error: ImageError) -> Needs
-    ensures { as_needs result ≡ needs_refused (image_number error) }
+pub fn refused(number: u8) -> Needs
+    ensures { as_needs result ≡ needs_refused number }
 {
     Needs {
-        number: error.number() as u64,
+        number: number as u64,
         memory: 0,
         records: 0,
         budget: 0,
         lines: 0,
         pointers: 0,
     }
+}
+
+pub fn refused_by(error: ImageError) -> Needs
+    ensures { as_needs result ≡ needs_refused (image_number error) }
+{
+    refused(error.number())
 }
 
 // The WD records of an accepted image, by its bytes: ME, ST and RN have 78, and each WD 14.
@@ -92,6 +98,6 @@ pub fn needs_in(image: &[u8]) -> Needs
 {
     match needs_found(image) {
         Ok(needs) => needs,
-        Err(error) => refused(error),
+        Err(error) => refused_by(error),
     }
 }

@@ -101,24 +101,26 @@ pub fn completed(core: Core, code: Descriptor) -> After
     }
 }
 
-// A fault leaves the core as it was.
-pub fn faulted(core: Core, code: Descriptor, fault: Fault, t: Pointer) -> After
-    ensures { result ≡ faulted_after core code (fault_number fault) t }
+// A fault leaves the core as it was. Number 0 is no fault's: the loop says so that a step stops before opcode 42 (docs/DECISIONS.md, L4).
+pub fn faulted(core: Core, code: Descriptor, number: u8, t: Pointer) -> After
+    ensures { result ≡ faulted_after core code number t }
 {
     After {
         core,
         code,
-        end: End::Faulted(fault.number(), t),
+        end: End::Faulted(number, t),
     }
 }
 
-// A step that stops before opcode 42, which the loop says as a fault numbered 0 (docs/DECISIONS.md, L4).
+pub fn faulted_by(core: Core, code: Descriptor, fault: Fault, t: Pointer) -> After
+    ensures { result ≡ faulted_after core code (fault_number fault) t }
+{
+    faulted(core, code, fault.number(), t)
+}
+
+// A step that stops before opcode 42.
 pub fn stopped(core: Core, code: Descriptor, t: Pointer) -> After
     ensures { result ≡ faulted_after core code 0 t }
 {
-    After {
-        core,
-        code,
-        end: End::Faulted(0, t),
-    }
+    faulted(core, code, 0, t)
 }

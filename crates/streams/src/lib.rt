@@ -1,7 +1,7 @@
 // The standard streams of a program: input in pieces, and a text or a refusal as output.
 #![tactic(auto)]
 
-ghost use Rattle.std.specs.Prelude.{◌≤◌, length, IfOk};
+ghost use Rattle.std.specs.Prelude.{◌≤◌, length, MatchResult};
 
 use state::reply::Reply;
 use std::fmt::Display;
@@ -14,9 +14,11 @@ pub struct Piece {
     pub has_ended: bool,
 }
 
-// Standard input can't be read, which has been told on standard error.
+// Standard input can't be read, which has been told on standard error; and how many bytes the buffer holds of what came before.
 #[derive(Clone, Copy, PartialEq, Eq)]
-pub struct InputFailed;
+pub struct InputFailed {
+    pub size: usize,
+}
 
 // Says on standard error what is wrong with standard input. Where that can't be written either, nobody is told.
 pub fn fail(rt: &impl Eprint, why: impl Display + Drop) {
@@ -30,11 +32,11 @@ pub fn read_piece(
     kept: usize,
 ) -> Result<Piece, InputFailed>
     requires { kept ≤ length buffer.old }
-    ensures { IfOk result (λ piece. (kept ≤ piece.size) × (piece.size ≤ length buffer.new)) }
+    ensures { MatchResult result (λ piece. (kept ≤ piece.size) × (piece.size ≤ length buffer.new)) (λ failed. (kept ≤ failed.size) × (failed.size ≤ length buffer.new)) }
 {
     if kept == buffer.len() {
         fail(rt, "there is no room to read into");
-        return Err(InputFailed);
+        return Err(InputFailed { size: kept });
     }
     match rt.reader().read(&mut buffer[kept..]) {
         Ok(count) => Ok(Piece {
@@ -43,14 +45,14 @@ pub fn read_piece(
         }),
         Err(error) => {
             fail(rt, error);
-            Err(InputFailed)
+            Err(InputFailed { size: kept })
         }
     }
 }
 
 // Reads until the buffer is full or the input ends, and says how many bytes it holds then. Each piece has a byte at least, or is the last.
 pub fn read_whole(rt: &(impl Input + Eprint), bytes: &mut [u8]) -> Result<usize, InputFailed>
-    ensures { IfOk result (λ size. size ≤ length bytes.new) }
+    ensures { MatchResult result (λ size. size ≤ length bytes.new) (λ failed. failed.size ≤ length bytes.new) }
 {
     let mut size = 0;
     while size < bytes.len() {

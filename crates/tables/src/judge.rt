@@ -11,14 +11,14 @@ use crate::row::Row;
 const MOST_ROWS: usize = 32;
 
 // 53.
-pub(crate) fn is_table_fit(rows: &[Row], segments: u16) -> bool
+pub fn is_table_fit(rows: &[Row], segments: u16) -> bool
     ensures { result ≡ Brackets.table_fits segments (as_rows rows.now) }
 {
     rows.len() <= MOST_ROWS && rows.iter().all(|row| row.is_fit(segments))
 }
 
 // The place of the first row that a segment is in.
-pub(crate) fn next_row(rows: &[Row], segment: u16) -> Option<usize>
+pub fn next_row(rows: &[Row], segment: u16) -> Option<usize>
     ensures { NextRow segment rows.now result }
 {
     rows.iter().position(|row| row.contains(segment))
@@ -39,7 +39,7 @@ fn segment_answer(rows: &[Row], segment: u16) -> Result<(), TableError>
 
 // Of all segments; the lowest at fault decides.
 #[tactic(auto, using(crate::proofs::JudgeLaws::segments_laws))]
-pub(crate) fn segments_answer(rows: &[Row], segments: u16) -> Result<(), TableError>
+pub fn segments_answer(rows: &[Row], segments: u16) -> Result<(), TableError>
     ensures { answer_number result ≡ Brackets.segments_questions segments 0 (as_rows rows.now) }
 {
     for segment in 0..segments {

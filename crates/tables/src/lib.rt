@@ -10,8 +10,8 @@ use error::TableError;
 use row::Row;
 
 pub mod error;
-mod judge;
-mod put;
+pub mod judge;
+pub mod put;
 pub mod row;
 
 // 1, 4, 53, then 54 or 55 of the lowest segment at fault.

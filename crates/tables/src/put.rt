@@ -29,7 +29,7 @@ fn by_row(rows: &[Row], segment: u16, word: u64, segments: u16) -> u64
 
 // Every descriptor of the segment at `address`.
 #[tactic(auto, using(crate::proofs::PutLaws::word_put, crate::proofs::PutLaws::all_put))]
-pub(crate) fn put_rows(memory: &mut [u64], address: u32, segments: u16, rows: &[Row])
+pub fn put_rows(memory: &mut [u64], address: u32, segments: u16, rows: &[Row])
     requires { (address + segments ≤ length memory.old) × (all (Brackets.row_fits segments) (as_rows rows.now) ≡ true) }
     ensures { memory.new ≡ Brackets.with_rows segments 0 (as_rows rows.now) address memory.old }
 {

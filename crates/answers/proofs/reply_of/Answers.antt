@@ -1,15 +1,17 @@
 -- `reply_of` meets its contract. Assumes nothing.
-use Rattle.answers.proofs.AnswerLaws.{replies_refused, replies_spent, replies_halted, replies_fault}
+use mathlib.Core.Path.{refl}
+use borrow.Author.Rules.{rules}
+use Rattle.answers.proofs.AnswerLaws.{replies_fault, replies}
 use Rattle.answers.proofs.reply_of.Goals as goal
 
-pub returns-in-Refused : goal.returns-in-Refused
-returns-in-Refused c = replies_refused _ c.in-Refused.is
+pub returns-in-0 : goal.returns-in-0
+returns-in-0 c = search (rules, replies)
 
-pub returns-in-Spent : goal.returns-in-Spent
-returns-in-Spent c = replies_spent _ c.in-Spent.is
+pub returns-in-1 : goal.returns-in-1
+returns-in-1 c = search (rules, replies)
 
-pub returns-in-Halted : goal.returns-in-Halted
-returns-in-Halted c = replies_halted _ c.in-Halted.is
+pub returns-in-2 : goal.returns-in-2
+returns-in-2 c = search (rules, replies)
 
-pub returns-in-Fault : goal.returns-in-Fault
-returns-in-Fault c = replies_fault _ c.in-Fault.is c.requires
+pub returns-in_default : goal.returns-in_default
+returns-in_default c = replies_fault _ _ refl c.in_default.in_default-own.rest.0.0.1 c.in_default.in_default-own.rest.0.1 c.in_default.in_default-own.rest.1 c.requires

@@ -4,13 +4,13 @@ use Rattle.dispatch.proofs.PerformLaws.{load_arm, transfer_arm, sta_arm, aos_arm
 use Rattle.dispatch.proofs.perform.Goals as goal
 
 pub returns-then-core-ne0 : goal.returns-then-core-ne0
-returns-then-core-ne0 c = ldbr_refused _ _ _ _ _ _ _ _ c.opcode-opcode.ensures c.in-40.is c.if-core-ne0.true _ c.faulted.ensures refl
+returns-then-core-ne0 c = ldbr_refused _ _ _ _ _ _ _ _ c.opcode-opcode.ensures c.in-40.is c.if-core-ne0.true _ c.faulted_by.ensures refl
 
 pub returns-then-ipr-ne0 : goal.returns-then-ipr-ne0
-returns-then-ipr-ne0 c = hlt_refused _ _ _ _ _ _ _ _ c.opcode-opcode.ensures c.in-41.is c.if-ipr-ne0.true _ c.faulted-then-ipr-ne0.ensures refl
+returns-then-ipr-ne0 c = hlt_refused _ _ _ _ _ _ _ _ c.opcode-opcode.ensures c.in-41.is c.if-ipr-ne0.true _ c.faulted_by-then-ipr-ne0.ensures refl
 
 pub returns-then-ipr-ne0-2 : goal.returns-then-ipr-ne0-2
-returns-then-ipr-ne0-2 c = rcu_refused _ _ _ _ _ _ _ _ c.opcode-opcode.ensures c.in-42.is c.if-ipr-ne0-2.true _ c.faulted-then-ipr-ne0-2.ensures refl
+returns-then-ipr-ne0-2 c = rcu_refused _ _ _ _ _ _ _ _ c.opcode-opcode.ensures c.in-42.is c.if-ipr-ne0-2.true _ c.faulted_by-then-ipr-ne0-2.ensures refl
 
 pub returns-in-1 : goal.returns-in-1
 returns-in-1 c = load_arm _ _ _ _ _ _ _ _ _ c.opcode-opcode.ensures _ c.in-1.is lda_entry c.load.ensures
@@ -73,4 +73,4 @@ pub returns-else-ipr-ne0-2 : goal.returns-else-ipr-ne0-2
 returns-else-ipr-ne0-2 c = rcu_arm _ _ _ _ _ _ _ _ c.opcode-opcode.ensures c.in-42.is c.if-ipr-ne0-2.false _ c.stopped.ensures refl
 
 pub returns-in_default : goal.returns-in_default
-returns-in_default c = unknown_arm _ _ _ _ _ _ _ _ c.opcode-opcode.ensures c.in_default.in_default-own.rest _ c.faulted-in_default.ensures refl
+returns-in_default c = unknown_arm _ _ _ _ _ _ _ _ c.opcode-opcode.ensures c.in_default.in_default-own.rest _ c.faulted_by-in_default.ensures refl

@@ -2,10 +2,6 @@
 use Rattle.entry.proofs.CallLaws.{core_says}
 use Rattle.entry.proofs.StepLaws.{step_is_plain, step_again}
 use borrow.Author.Rules.{rules}
-use Rattle.std.proofs.Common.{ap}
-use Rattle.answers.specs.Answer.{kind_number}
-use Rattle.answers.specs.declared.Kind.TheVariants as Kind
-use Rattle.answers.proofs.AnswerLaws.{is_kind, not_kind, kind_fault}
 use Rattle.entry.proofs.run_core.Goals as goal
 
 pub is_delivery-requires : goal.is_delivery-requires
@@ -20,11 +16,11 @@ slice_bounds-run-end c = search rules
 pub run-x-requires : goal.run-x-requires
 run-x-requires c = search rules
 
-pub returns-then-eq : goal.returns-then-eq
-returns-then-eq c = step_again _ _ _ _ c.is_delivery.ensures c.if-single-budget.true _ _ _ _ _ _ c.step-x.ensures (ap kind_number (is_kind _ Kind.Fault _ c.eq.ensures c.if-eq.true)) _ _ _ _ _ c.run-x.ensures
+pub returns-then-x : goal.returns-then-x
+returns-then-x c = step_again _ _ _ _ c.is_delivery.ensures c.if-single-budget.true _ _ _ _ _ _ c.step-x.ensures c.if-x.true _ _ _ _ _ c.run-x.ensures
 
-pub returns-else-eq : goal.returns-else-eq
-returns-else-eq c = step_is_plain _ _ _ _ c.is_delivery.ensures c.if-single-budget.true _ _ _ _ _ _ c.step-x.ensures (λ z. not_kind _ Kind.Fault _ c.eq.ensures c.if-eq.false (kind_fault _ z))
+pub returns-else-x : goal.returns-else-x
+returns-else-x c = step_is_plain _ _ _ _ c.is_delivery.ensures c.if-single-budget.true _ _ _ _ _ _ c.step-x.ensures c.if-x.false
 
 pub slice_bounds-run-end-2 : goal.slice_bounds-run-end-2
 slice_bounds-run-end-2 c = search rules
